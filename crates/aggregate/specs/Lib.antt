@@ -1,0 +1,2 @@
+pub mod Aggregates
+pub mod Choices

@@ -1,0 +1,4 @@
+pub mod Model
+pub mod Distances
+pub mod Channels
+pub mod Sides
