@@ -8,7 +8,10 @@ use metric::city_block::CityBlock;
 use metric::hamming::Hamming;
 
 /// City block on 4 bytes, Hamming on 4, circular on 2 and Chebyshev on 2: 12 bytes to a patch.
-pub type Bench = Pair<Pair<Single<CityBlock>, Single<Hamming>>, Pair<Single<Circular>, Single<Chebyshev>>>;
+pub type Bench = Pair<
+    Pair<Single<CityBlock>, Single<Hamming>>,
+    Pair<Single<Circular>, Single<Chebyshev>>,
+>;
 
 /// The bench's channels.
 pub fn bench() -> Bench
@@ -19,12 +22,20 @@ pub fn bench() -> Bench
 {
     Pair {
         first: Pair {
-            first: Single { metric: CityBlock::new(3) },
-            second: Single { metric: Hamming::new(3) },
+            first: Single {
+                metric: CityBlock::new(3),
+            },
+            second: Single {
+                metric: Hamming::new(3),
+            },
         },
         second: Pair {
-            first: Single { metric: Circular::new(1) },
-            second: Single { metric: Chebyshev::new(1) },
+            first: Single {
+                metric: Circular::new(1),
+            },
+            second: Single {
+                metric: Chebyshev::new(1),
+            },
         },
     }
 }

@@ -19,11 +19,11 @@ one [] h = absurd (omega arith)
 one (x ∷ xs) h = (ap (λ (l : List ℕ). x ∷ l) (sym (rest 1 (x ∷ xs))), rest-length 1 (x ∷ xs) h)
 
 pub two : (xs : List ℕ) (n : ℕ) → 2 ≤ length xs → ((k : ℕ) → getD xs k 0 < 256) → n ≡ getD xs 0 0 * 256 + getD xs 1 0
-  → (xs ≡ be16 n ++ take (length xs - 2) (drop 2 xs)) × (length xs ≡ 2 + length (take (length xs - 2) (drop 2 xs)))
+    → (xs ≡ be16 n ++ take (length xs - 2) (drop 2 xs)) × (length xs ≡ 2 + length (take (length xs - 2) (drop 2 xs)))
 two [] n h b e = absurd (omega arith)
 two (x ∷ []) n h b e = absurd (omega arith)
 two (x ∷ y ∷ xs) n h b e =
-  let p : x ≡ n / 256 = omega (arith, b 0, b 1, e) in
-  let q : y ≡ n % 256 = omega (arith, b 0, b 1, e) in
-  let r = rest 2 (x ∷ y ∷ xs) in
-  (cc, rest-length 2 (x ∷ y ∷ xs) h)
+    let p : x ≡ n / 256 = omega (arith, b 0, b 1, e) in
+    let q : y ≡ n % 256 = omega (arith, b 0, b 1, e) in
+    let r = rest 2 (x ∷ y ∷ xs) in
+    (cc, rest-length 2 (x ∷ y ∷ xs) h)

@@ -27,10 +27,10 @@ came P o r v e f p = subst P (e ∙ ap okPart f) p
 
 -- the parts of a search, joined
 pub nearest-joined : (bytes r₁ r₂ r₃ ws rows rest : List ℕ) (g k radius budget : ℕ)
-  → bytes ≡ g ∷ r₁ → r₁ ≡ ws ++ r₂ → r₂ ≡ be16 k ++ (be32 radius ++ (be32 budget ++ r₃)) → r₃ ≡ rows ++ rest
-  → 0x43 ∷ bytes ≡ encode (nearest g ws k radius budget rows) ++ rest
+    → bytes ≡ g ∷ r₁ → r₁ ≡ ws ++ r₂ → r₂ ≡ be16 k ++ (be32 radius ++ (be32 budget ++ r₃)) → r₃ ≡ rows ++ rest
+    → 0x43 ∷ bytes ≡ encode (nearest g ws k radius budget rows) ++ rest
 nearest-joined bytes r₁ r₂ r₃ ws rows rest g k radius budget a b c d =
-  let e = append-assoc ws (be16 k ++ (be32 radius ++ (be32 budget ++ rows))) rest in cc
+    let e = append-assoc ws (be16 k ++ (be32 radius ++ (be32 budget ++ rows))) rest in cc
 
 -- a decoder, to tell that no two commands are written alike
 get16 : List ℕ → ℕ
@@ -45,11 +45,11 @@ with-limits f g ws l = Some (nearest g ws (get16 l) (get32 (drop 2 l)) (get32 (d
 decode : Format → List ℕ → Option (Instruction × List ℕ)
 decode f [] = None
 decode f (byte ∷ l) =
-  cond (eqb byte 0x4c) (Some (insert (get16 l) (take (f .rows) (drop 2 l)), drop (f .rows) (drop 2 l)))
-  (cond (eqb byte 0x55) (Some (remove (get16 l), drop 2 l))
-  (cond (eqb byte 0x50) (Some (add-pivot (getD l 0 0) (get16 (drop 1 l)), drop 3 l))
-  (cond (eqb byte 0x52) (Some (remove-pivot (getD l 0 0) (getD l 1 0), drop 2 l))
-  (with-limits f (getD l 0 0) (take (f .weights) (drop 1 l)) (drop (f .weights) (drop 1 l))))))
+    cond (eqb byte 0x4c) (Some (insert (get16 l) (take (f .rows) (drop 2 l)), drop (f .rows) (drop 2 l)))
+    (cond (eqb byte 0x55) (Some (remove (get16 l), drop 2 l))
+    (cond (eqb byte 0x50) (Some (add-pivot (getD l 0 0) (get16 (drop 1 l)), drop 3 l))
+    (cond (eqb byte 0x52) (Some (remove-pivot (getD l 0 0) (getD l 1 0), drop 2 l))
+    (with-limits f (getD l 0 0) (take (f .weights) (drop 1 l)) (drop (f .weights) (drop 1 l))))))
 
 front : (n : ℕ) (xs ys : List ℕ) → length xs ≡ n → take n (xs ++ ys) ≡ xs
 front n xs ys e = rw (← e) (take-append-seam xs ys)
@@ -64,10 +64,10 @@ number32 : (n : ℕ) → (n / 65536 / 256 * 256 + n / 65536 % 256) * 65536 + (n 
 number32 n = omega arith
 
 limits-decoded : (f : Format) (g : ℕ) (ws : List ℕ) (k r b : ℕ) (rows rest : List ℕ) → length rows ≡ f .rows
-  → with-limits f g ws ((be16 k ++ (be32 r ++ (be32 b ++ rows))) ++ rest) ≡ Some (nearest g ws k r b rows, rest)
+    → with-limits f g ws ((be16 k ++ (be32 r ++ (be32 b ++ rows))) ++ rest) ≡ Some (nearest g ws k r b rows, rest)
 unfolding get16 get32 with-limits
 limits-decoded f g ws k r b rows rest e =
-  λ j. Some (nearest g ws (number16 k j) (number32 r j) (number32 b j) (front (f .rows) rows rest e j), back (f .rows) rows rest e j)
+    λ j. Some (nearest g ws (number16 k j) (number32 r j) (number32 b j) (front (f .rows) rows rest e j), back (f .rows) rows rest e j)
 
 decoded : (f : Format) (i : Instruction) (rest : List ℕ) → Fits f i → decode f (encode i ++ rest) ≡ Some (i, rest)
 unfolding decode get16 get32 with-limits
@@ -76,11 +76,11 @@ decoded f (remove a) rest h = λ j. Some (remove (number16 a j), rest)
 decoded f (add-pivot c a) rest h = λ j. Some (add-pivot c (number16 a j), rest)
 decoded f (remove-pivot c p) rest h = refl
 decoded f (nearest g ws k r b rows) rest h =
-  let x = be16 k ++ (be32 r ++ (be32 b ++ rows)) in
-  ap (λ (y : List ℕ). with-limits f g (take (f .weights) y) (drop (f .weights) y)) (append-assoc ws x rest)
-  ∙ ap (λ (y : List ℕ). with-limits f g y (drop (f .weights) (ws ++ (x ++ rest)))) (front (f .weights) ws (x ++ rest) (h .1))
-  ∙ ap (λ (y : List ℕ). with-limits f g ws y) (back (f .weights) ws (x ++ rest) (h .1))
-  ∙ limits-decoded f g ws k r b rows rest (h .5)
+    let x = be16 k ++ (be32 r ++ (be32 b ++ rows)) in
+    ap (λ (y : List ℕ). with-limits f g (take (f .weights) y) (drop (f .weights) y)) (append-assoc ws x rest)
+    ∙ ap (λ (y : List ℕ). with-limits f g y (drop (f .weights) (ws ++ (x ++ rest)))) (front (f .weights) ws (x ++ rest) (h .1))
+    ∙ ap (λ (y : List ℕ). with-limits f g ws y) (back (f .weights) ws (x ++ rest) (h .1))
+    ∙ limits-decoded f g ws k r b rows rest (h .5)
 
 -- a command in front of an input can be read
 uncut : (bytes : List ℕ) (n : ℕ) → n ≤ length bytes → cut bytes (Some n) ≡ None
@@ -92,14 +92,14 @@ unrefused f (remove a) rest h = uncut (be16 a ++ rest) 2 (omega arith)
 unrefused f (add-pivot c a) rest h = uncut (c ∷ (be16 a ++ rest)) 3 (omega arith)
 unrefused f (remove-pivot c p) rest h = uncut (c ∷ (p ∷ rest)) 2 (omega arith)
 unrefused f (nearest g ws k r b rows) rest h =
-  let x = be16 k ++ (be32 r ++ (be32 b ++ rows)) in
-  uncut (g ∷ (ws ++ x ++ rest)) (11 + f .weights + f .rows) (omega (arith, length-append (ws ++ x) rest, length-append ws x, h .1, h .5))
+    let x = be16 k ++ (be32 r ++ (be32 b ++ rows)) in
+    uncut (g ∷ (ws ++ x ++ rest)) (11 + f .weights + f .rows) (omega (arith, length-append (ws ++ x) rest, length-append ws x, h .1, h .5))
 
 -- no two commands are written alike
 unique : (f : Format) (i j : Instruction) (a b : List ℕ) → Fits f i → Fits f j → encode i ++ a ≡ encode j ++ b → (i ≡ j) × (a ≡ b)
 unique f i j a b h k e =
-  let d = sym (decoded f i a h) ∙ ap (decode f) e ∙ decoded f j b k in
-  (ap (λ (o : Option (Instruction × List ℕ)). valueOr o (i, a) .0) d, ap (λ (o : Option (Instruction × List ℕ)). valueOr o (i, a) .1) d)
+    let d = sym (decoded f i a h) ∙ ap (decode f) e ∙ decoded f j b k in
+    (ap (λ (o : Option (Instruction × List ℕ)). valueOr o (i, a) .0) d, ap (λ (o : Option (Instruction × List ℕ)). valueOr o (i, a) .1) d)
 
 -- so a reader that reads what stands in front reads exactly
 pub exact : (f : Format) (before after : List ℕ) (r : Result (Option Command) Refusal) → Next f before after r → Exact f before after r
@@ -113,5 +113,5 @@ exact f before after (Ok None) n i rest h e = absurd (not-empty i rest (sym e �
     not-empty (nearest g ws k r b rows) rest e = omega (arith, ap length e)
 exact f before after (Ok (Some c)) n i rest h e = unique f (meant c) i after rest (n .1) h (sym (n .0) ∙ e)
 exact f before after (Err x) n i rest h e =
-  let p : Some x ≡ None = sym (n .0) ∙ ap (read-refusal f) e ∙ unrefused f i rest h in
-  let z : _≡_ {A = ℕ} 0 1 = cc in absurd (omega arith)
+    let p : Some x ≡ None = sym (n .0) ∙ ap (read-refusal f) e ∙ unrefused f i rest h in
+    let z : _≡_ {A = ℕ} 0 1 = cc in absurd (omega arith)

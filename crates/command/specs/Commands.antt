@@ -36,11 +36,11 @@ encode (nearest g ws k r b rows) = 0x43 ∷ (g ∷ (ws ++ (be16 k ++ (be32 r ++ 
 -- how many bytes of operands follow a letter; none where it is no command's
 abbrev pub operands : Format → ℕ → Option ℕ
 operands f byte =
-  cond (eqb byte 0x4c) (Some (2 + f .rows))
-  (cond (eqb byte 0x55) (Some 2)
-  (cond (eqb byte 0x50) (Some 3)
-  (cond (eqb byte 0x52) (Some 2)
-  (cond (eqb byte 0x43) (Some (11 + f .weights + f .rows)) None))))
+    cond (eqb byte 0x4c) (Some (2 + f .rows))
+    (cond (eqb byte 0x55) (Some 2)
+    (cond (eqb byte 0x50) (Some 3)
+    (cond (eqb byte 0x52) (Some 2)
+    (cond (eqb byte 0x43) (Some (11 + f .weights + f .rows)) None))))
 
 -- its numbers and parts are as long as the format has them
 abbrev pub Fits : Format → Instruction → Type 0

@@ -17,11 +17,29 @@ pub mod format;
 /// A command. Rows and weights are parts of the input that it was read from.
 #[derive(Clone, Copy)]
 pub enum Command<'a> {
-    Insert { accession: u16, rows: &'a [u8] },
-    Remove { accession: u16 },
-    AddPivot { channel: u8, accession: u16 },
-    RemovePivot { channel: u8, pivot: u8 },
-    Nearest { aggregate: u8, weights: &'a [u8], k: u16, radius: u32, budget: u32, rows: &'a [u8] },
+    Insert {
+        accession: u16,
+        rows: &'a [u8],
+    },
+    Remove {
+        accession: u16,
+    },
+    AddPivot {
+        channel: u8,
+        accession: u16,
+    },
+    RemovePivot {
+        channel: u8,
+        pivot: u8,
+    },
+    Nearest {
+        aggregate: u8,
+        weights: &'a [u8],
+        k: u16,
+        radius: u32,
+        budget: u32,
+        rows: &'a [u8],
+    },
 }
 
 // The first n bytes, and what follows them; none where there are fewer.
@@ -57,7 +75,10 @@ fn read_add_pivot<'a>(format: Format, bytes: &'a [u8]) -> Result<(Command<'a>, &
     Ok((Command::AddPivot { channel, accession }, rest))
 }
 
-fn read_remove_pivot<'a>(format: Format, bytes: &'a [u8]) -> Result<(Command<'a>, &'a [u8]), Refusal>
+fn read_remove_pivot<'a>(
+    format: Format,
+    bytes: &'a [u8],
+) -> Result<(Command<'a>, &'a [u8]), Refusal>
     ensures { λ r. ⌜ Operands format 0x52 2 (now (bytes .entry)) r ⌝ }
 {
     let (channel, rest) = split_u8(bytes).ok_or(Refusal::CutShort)?;
@@ -88,11 +109,25 @@ fn read_nearest<'a>(format: Format, bytes: &'a [u8]) -> Result<(Command<'a>, &'a
     let (weights, rest) = split_part(rest, format.weights).ok_or(Refusal::CutShort)?;
     let (Limits { k, radius, budget }, rest) = read_limits(rest)?;
     let (rows, rest) = split_part(rest, format.rows).ok_or(Refusal::CutShort)?;
-    Ok((Command::Nearest { aggregate, weights, k, radius, budget, rows }, rest))
+    Ok((
+        Command::Nearest {
+            aggregate,
+            weights,
+            k,
+            radius,
+            budget,
+            rows,
+        },
+        rest,
+    ))
 }
 
 // The command whose letter is `byte`, from the bytes behind it.
-fn read_operands<'a>(format: Format, byte: u8, bytes: &'a [u8]) -> Result<(Command<'a>, &'a [u8]), Refusal>
+fn read_operands<'a>(
+    format: Format,
+    byte: u8,
+    bytes: &'a [u8],
+) -> Result<(Command<'a>, &'a [u8]), Refusal>
     ensures { λ r. ⌜ Behind format byte (now (bytes .entry)) r ⌝ }
 {
     match byte {
@@ -126,7 +161,10 @@ impl<'a> Reader<'a> {
     pub fn new(format: Format, input: &'a [u8]) -> Reader<'a>
         ensures { λ r. ⌜ (r .format ≡ format) × (now (r .rest) ≡ now (input .entry)) ⌝ }
     {
-        Reader { format, rest: input }
+        Reader {
+            format,
+            rest: input,
+        }
     }
 
     /// The next command; none at the end of the input. Refused where the next byte is no command's letter (14) or the

@@ -19,9 +19,50 @@ use patch::channel_distance;
 use refusal::Refusal;
 use std::error::AnyError;
 
-const QUERY: [u8; 12] = [0x0c, 0x0a, 0x0a, 0x0a, 0x00, 0x00, 0x00, 0x01, 0x04, 0x00, 0x10, 0x11];
-const PATCH_5: [u8; 12] = [0x0a, 0x0a, 0x0a, 0x0a, 0x00, 0x00, 0x00, 0x00, 0x00, 0x00, 0x10, 0x10];
-const PATCH_9: [u8; 12] = [0x14, 0x0a, 0x0a, 0x0a, 0x00, 0x00, 0x00, 0x0f, 0xf8, 0x00, 0x10, 0x12];
+const QUERY: [u8; 12] = [
+    0x0c,
+    0x0a,
+    0x0a,
+    0x0a,
+    0x00,
+    0x00,
+    0x00,
+    0x01,
+    0x04,
+    0x00,
+    0x10,
+    0x11,
+];
+
+const PATCH_5: [u8; 12] = [
+    0x0a,
+    0x0a,
+    0x0a,
+    0x0a,
+    0x00,
+    0x00,
+    0x00,
+    0x00,
+    0x00,
+    0x00,
+    0x10,
+    0x10,
+];
+
+const PATCH_9: [u8; 12] = [
+    0x14,
+    0x0a,
+    0x0a,
+    0x0a,
+    0x00,
+    0x00,
+    0x00,
+    0x0f,
+    0xf8,
+    0x00,
+    0x10,
+    0x12,
+];
 
 // What is measured between the query and a patch.
 #[derive(Clone, Copy)]
@@ -51,28 +92,65 @@ fn compare(set: &mut Bench, number: u16, patch: &[u8]) -> Result<Comparison, Ref
 }
 
 fn tell(rt: &LibcRuntime, c: Comparison) -> Result<(), AnyError> {
-    let Comparison { number, bands, ink, grain, depth, sum, greatest, least } = c;
-    println!(rt, "Patch {number} differs from the query by {bands} in bands, {ink} in ink, {grain} in grain and {depth} in depth.")?;
-    println!(rt, "  All weights being 1, the sum is {sum}, the greatest {greatest} and the least {least}.")?;
+    let Comparison {
+        number,
+        bands,
+        ink,
+        grain,
+        depth,
+        sum,
+        greatest,
+        least,
+    } = c;
+    println!(
+        rt,
+        "Patch {number} differs from the query by {bands} in bands, {ink} in ink, {grain} in grain and {depth} in depth."
+    )?;
+    println!(
+        rt,
+        "  All weights being 1, the sum is {sum}, the greatest {greatest} and the least {least}."
+    )?;
     Ok(())
 }
 
 // Names the nearer of two patches; equally near ones go by their number.
-fn judge(rt: &LibcRuntime, by: &str, first: u16, near: Weighted, second: u16, far: Weighted) -> Result<(), AnyError> {
+fn judge(
+    rt: &LibcRuntime,
+    by: &str,
+    first: u16,
+    near: Weighted,
+    second: u16,
+    far: Weighted,
+) -> Result<(), AnyError> {
     if near < far {
-        println!(rt, "By the {by}, patch {first} is nearer: {near} against {far}.")?;
+        println!(
+            rt,
+            "By the {by}, patch {first} is nearer: {near} against {far}."
+        )?;
     } else if far < near {
-        println!(rt, "By the {by}, patch {second} is nearer: {far} against {near}.")?;
+        println!(
+            rt,
+            "By the {by}, patch {second} is nearer: {far} against {near}."
+        )?;
     } else {
-        println!(rt, "By the {by}, both are at {near}, so the lower number, {first}, comes first.")?;
+        println!(
+            rt,
+            "By the {by}, both are at {near}, so the lower number, {first}, comes first."
+        )?;
     }
     Ok(())
 }
 
 fn run(rt: &LibcRuntime) -> Result<(), AnyError> {
     let mut set = bench();
-    println!(rt, "Two patches are measured against a query, channel by channel.")?;
-    let (Ok(five), Ok(nine)) = (compare(&mut set, 5, &PATCH_5), compare(&mut set, 9, &PATCH_9)) else {
+    println!(
+        rt,
+        "Two patches are measured against a query, channel by channel."
+    )?;
+    let (Ok(five), Ok(nine)) = (
+        compare(&mut set, 5, &PATCH_5),
+        compare(&mut set, 9, &PATCH_9),
+    ) else {
         return Err("a patch does not fit the bench's channels".into());
     };
     tell(rt, five)?;

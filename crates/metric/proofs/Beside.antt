@@ -12,9 +12,9 @@ use Rattle.metric.specs.Channels.{AllLawful, AddsAt, Asked, at, count, beside,
 
 pub lawful-append : (xs ys : List Model) → AllLawful xs → AllLawful ys → AllLawful (xs ++ ys)
 lawful-append xs ys p q c h = ⊎-elim
-  (λ k. subst Lawful (sym (getD-append-left xs ys no-model c k)) (p c k))
-  (λ k. subst Lawful (sym (getD-append-right xs ys (length xs) c no-model refl k)) (q (c - length xs) (omega (arith, length-append xs ys))))
-  (cases-lt c (length xs))
+    (λ k. subst Lawful (sym (getD-append-left xs ys no-model c k)) (p c k))
+    (λ k. subst Lawful (sym (getD-append-right xs ys (length xs) c no-model refl k)) (q (c - length xs) (omega (arith, length-append xs ys))))
+    (cases-lt c (length xs))
 
 module _ (xs ys : List Model) (c : ℕ) where
   -- a channel of the first set
@@ -43,4 +43,4 @@ module _ (c : ℕ) (a b : List ℕ) where
   pub adds-second : (n j : ℕ) (first second second′ : Asked) → c ≡ n + j → AddsAt second second′ j a b → AddsAt (beside n first second) (beside n first second′) c a b
   adds-second n j first second second′ e h k x y (inl p) = inl (inl p)
   adds-second n j first second second′ e h k x y (inr p) =
-    ⊎-elim (λ r. inl (inr (p .0, p .1, r))) (λ r. inr (omega (arith, p .1, r .0), r .1, r .2)) (h (p .0) x y (p .2))
+      ⊎-elim (λ r. inl (inr (p .0, p .1, r))) (λ r. inr (omega (arith, p .1, r .0), r .1, r .2)) (h (p .0) x y (p .2))

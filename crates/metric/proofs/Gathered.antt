@@ -48,16 +48,16 @@ Bytes x = (k : ℕ) → getD x k 0 < 256
 
 module _ {op : ℕ → ℕ → ℕ} (o : Gathering op) (f : ℕ → ℕ → ℕ) where
   across-suc : (i : ℕ) (xs ys : List ℕ) → i < length xs → i < length ys
-    → across op f (take (suc i) xs) (take (suc i) ys) ≡ op (across op f (take i xs) (take i ys)) (f (getD xs i 0) (getD ys i 0))
+      → across op f (take (suc i) xs) (take (suc i) ys) ≡ op (across op f (take i xs) (take i ys)) (f (getD xs i 0) (getD ys i 0))
   across-suc i [] ys h k = absurd (not-suc-le-zero h)
   across-suc i (x ∷ xs) [] h k = absurd (not-suc-le-zero k)
   across-suc zero (x ∷ xs) (y ∷ ys) h k = o .right (f x y) ∙ sym (o .left (f x y))
   across-suc (suc i) (x ∷ xs) (y ∷ ys) h k =
-    ap (op (f x y)) (across-suc i xs ys (le-of-suc-le-suc h) (le-of-suc-le-suc k)) ∙ sym (o .assoc _ _ _)
+      ap (op (f x y)) (across-suc i xs ys (le-of-suc-le-suc h) (le-of-suc-le-suc k)) ∙ sym (o .assoc _ _ _)
 
   -- one more place of both rows
   pub across-more : (i so v r : ℕ) (xs ys : List ℕ) → i < length xs → length xs ≡ length ys → v ≡ f (getD xs i 0) (getD ys i 0)
-    → so ≡ across op f (take i xs) (take i ys) → r ≡ op so v → r ≡ across op f (take (i + 1) xs) (take (i + 1) ys)
+      → so ≡ across op f (take i xs) (take i ys) → r ≡ op so v → r ≡ across op f (take (i + 1) xs) (take (i + 1) ys)
   across-more i so v r xs ys h e u s z = rw add-one (let m = across-suc i xs ys h (omega arith) in cc)
 
   pub across-all : (i so : ℕ) (xs ys : List ℕ) → length xs ≤ i → length xs ≡ length ys → so ≡ across op f (take i xs) (take i ys) → so ≡ across op f xs ys
@@ -73,17 +73,17 @@ module _ {op : ℕ → ℕ → ℕ} (o : Gathering op) (f : ℕ → ℕ → ℕ)
     across-symmetric [] (y ∷ ys) b d = refl
     across-symmetric (x ∷ xs) [] b d = refl
     across-symmetric (x ∷ xs) (y ∷ ys) b d =
-      let p = g .symmetric x y (b 0) (d 0) in let q = across-symmetric xs ys (λ k. b (suc k)) (λ k. d (suc k)) in cc
+        let p = g .symmetric x y (b 0) (d 0) in let q = across-symmetric xs ys (λ k. b (suc k)) (λ k. d (suc k)) in cc
 
     across-triangle : (xs ys zs : List ℕ) → length xs ≡ length ys → length ys ≡ length zs → Bytes xs → Bytes ys → Bytes zs
-      → across op f xs zs ≤ across op f xs ys + across op f ys zs
+        → across op f xs zs ≤ across op f xs ys + across op f ys zs
     across-triangle [] ys zs p q b d e = omega arith
     across-triangle (x ∷ xs) [] zs p q b d e = omega arith
     across-triangle (x ∷ xs) (y ∷ ys) [] p q b d e = omega arith
     across-triangle (x ∷ xs) (y ∷ ys) (z ∷ zs) p q b d e =
-      le-trans
-      (o .rises _ _ _ _ (g .triangle x y z (b 0) (d 0) (e 0)) (across-triangle xs ys zs (omega arith) (omega arith) (λ k. b (suc k)) (λ k. d (suc k)) (λ k. e (suc k))))
-      (o .spreads _ _ _ _)
+        le-trans
+        (o .rises _ _ _ _ (g .triangle x y z (b 0) (d 0) (e 0)) (across-triangle xs ys zs (omega arith) (omega arith) (λ k. b (suc k)) (λ k. d (suc k)) (λ k. e (suc k))))
+        (o .spreads _ _ _ _)
 
     -- top n is above n entries of at most c each
     module _ (top : ℕ → ℕ) (more : (n : ℕ) → op c (top n) ≤ top (suc n)) where
@@ -91,7 +91,7 @@ module _ {op : ℕ → ℕ → ℕ} (o : Gathering op) (f : ℕ → ℕ → ℕ)
       across-bounded [] ys b d = omega arith
       across-bounded (x ∷ xs) [] b d = omega arith
       across-bounded (x ∷ xs) (y ∷ ys) b d =
-        le-trans (o .rises _ _ _ _ (g .bounded x y (b 0) (d 0)) (across-bounded xs ys (λ k. b (suc k)) (λ k. d (suc k)))) (more (length xs))
+          le-trans (o .rises _ _ _ _ (g .bounded x y (b 0) (d 0)) (across-bounded xs ys (λ k. b (suc k)) (λ k. d (suc k)))) (more (length xs))
 
       pub across-lawful : (w : ℕ) → 1 ≤ w → w ≤ 256 → top w ≤ 65280 → Lawful (record { width = w; top = top w; dist = across op f })
       across-lawful w some few small = record {

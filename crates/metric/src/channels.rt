@@ -89,7 +89,11 @@ fn side_of<A: ChannelSet>(first: &A, c: usize) -> Side
     ensures { λ r. ⌜ LiesAt (models (now (first .entry))) c r ⌝ }
 {
     let n = first.channels();
-    if c < n { Side::First(c) } else { Side::Second(c - n) }
+    if c < n {
+        Side::First(c)
+    } else {
+        Side::Second(c - n)
+    }
 }
 
 pub impl<A: ChannelSet, B: ChannelSet> ChannelSet for Pair<A, B> as PairChannels {

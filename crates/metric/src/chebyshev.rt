@@ -3,7 +3,9 @@ ghost use mathlib.Core.Path.{_≡_};
 ghost use Prim.Native.Nat.{_+_};
 ghost use Rattle.metric.specs.Distances.{chebyshev};
 use crate::Metric;
-use crate::bytes::{ByDifference, Difference, largest};
+use crate::bytes::ByDifference;
+use crate::bytes::Difference;
+use crate::bytes::largest;
 use crate::width::Width;
 
 /// The largest single byte difference; at most 255.
@@ -17,7 +19,9 @@ impl Chebyshev {
     pub fn new(last: u8) -> Self
         ensures { λ r. ⌜ r .width .last ≡ last ⌝ }
     {
-        Chebyshev { width: Width::new(last) }
+        Chebyshev {
+            width: Width::new(last),
+        }
     }
 }
 

@@ -3,7 +3,9 @@ ghost use mathlib.Core.Path.{_≡_};
 ghost use Prim.Native.Nat.{_+_};
 ghost use Rattle.metric.specs.Distances.{circular};
 use crate::Metric;
-use crate::bytes::{ByShorterWay, ShorterWay, summed};
+use crate::bytes::ByShorterWay;
+use crate::bytes::ShorterWay;
+use crate::bytes::summed;
 use crate::width::Width;
 
 /// Each byte is a direction, 256 to the circle: the shorter ways round, summed; at most 128 times the width.
@@ -17,7 +19,9 @@ impl Circular {
     pub fn new(last: u8) -> Self
         ensures { λ r. ⌜ r .width .last ≡ last ⌝ }
     {
-        Circular { width: Width::new(last) }
+        Circular {
+            width: Width::new(last),
+        }
     }
 }
 

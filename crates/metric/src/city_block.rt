@@ -3,7 +3,9 @@ ghost use mathlib.Core.Path.{_≡_};
 ghost use Prim.Native.Nat.{_+_};
 ghost use Rattle.metric.specs.Distances.{cityBlock};
 use crate::Metric;
-use crate::bytes::{ByDifference, Difference, summed};
+use crate::bytes::ByDifference;
+use crate::bytes::Difference;
+use crate::bytes::summed;
 use crate::width::Width;
 
 /// The sum of the byte differences; at most 255 times the width.
@@ -17,7 +19,9 @@ impl CityBlock {
     pub fn new(last: u8) -> Self
         ensures { λ r. ⌜ r .width .last ≡ last ⌝ }
     {
-        CityBlock { width: Width::new(last) }
+        CityBlock {
+            width: Width::new(last),
+        }
     }
 }
 

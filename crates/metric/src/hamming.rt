@@ -3,7 +3,9 @@ ghost use mathlib.Core.Path.{_≡_};
 ghost use Prim.Native.Nat.{_+_};
 ghost use Rattle.metric.specs.Distances.{hamming};
 use crate::Metric;
-use crate::bytes::{ByDifferingBits, DifferingBits, summed};
+use crate::bytes::ByDifferingBits;
+use crate::bytes::DifferingBits;
+use crate::bytes::summed;
 use crate::width::Width;
 
 /// The number of bits that differ; at most 8 times the width.
@@ -17,7 +19,9 @@ impl Hamming {
     pub fn new(last: u8) -> Self
         ensures { λ r. ⌜ r .width .last ≡ last ⌝ }
     {
-        Hamming { width: Width::new(last) }
+        Hamming {
+            width: Width::new(last),
+        }
     }
 }
 

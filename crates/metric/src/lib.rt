@@ -6,12 +6,12 @@ ghost use lib.ListN.{length};
 ghost use Rattle.metric.specs.Model.{Model, Lawful, Adds};
 
 mod bytes;
-mod width;
+pub mod channels;
+pub mod chebyshev;
+pub mod circular;
 pub mod city_block;
 pub mod hamming;
-pub mod circular;
-pub mod chebyshev;
-pub mod channels;
+mod width;
 
 /// A distance between rows of bytes of one width.
 ///

@@ -37,11 +37,11 @@ module _ (ms : List Model) (c : ℕ) (h : c < length ms) where
 
 -- the part from `start` to `start + w` is the row
 pub cut-is-row : (ms : List Model) (c start w : ℕ) (x : List ℕ) → length ms ≤ 8 → start ≡ offset (few ms) c → w ≡ at ms c .width
-  → take ((start + w) - start) (drop start x) ≡ row ms c x
+    → take ((start + w) - start) (drop start x) ≡ row ms c x
 cut-is-row ms c start w x h s e =
-  let z : (start + w) - start ≡ at ms c .width = omega arith in
-  let o : start ≡ offset ms c = s ∙ ap (λ (l : List Model). offset l c) (few-all ms h) in
-  ap (λ (n : ℕ). take n (drop start x)) z ∙ ap (λ (n : ℕ). take (at ms c .width) (drop n x)) o
+    let z : (start + w) - start ≡ at ms c .width = omega arith in
+    let o : start ≡ offset ms c = s ∙ ap (λ (l : List Model). offset l c) (few-all ms h) in
+    ap (λ (n : ℕ). take n (drop start x)) z ∙ ap (λ (n : ℕ). take (at ms c .width) (drop n x)) o
 
 pub cut-ends : (ms : List Model) (c start w : ℕ) → length ms ≤ 8 → c < length ms → start ≡ offset (few ms) c → w ≡ at ms c .width → start + w ≤ patch-width ms
 cut-ends ms c start w f h s e = omega (arith, row-ends ms c h, ap (λ (l : List Model). offset l c) (few-all ms f))

@@ -36,9 +36,9 @@ offset-all ms c h = ap (sumBy width-of) (take-all c ms h)
 -- where a walk over the channels that stops at the last comes to
 pub offset-end : (ms : List Model) (i c : ℕ) → min c (length ms) ≤ i → i ≤ min c (length ms) → offset ms i ≡ offset ms c
 offset-end ms i c h k = ⊎-elim
-  (λ l. ap (offset ms) (let e : i ≡ c = omega arith in e))
-  (λ l. offset-all ms i (omega arith) ∙ sym (offset-all ms c l))
-  (cases-lt c (length ms))
+    (λ l. ap (offset ms) (let e : i ≡ c = omega arith in e))
+    (λ l. offset-all ms i (omega arith) ∙ sym (offset-all ms c l))
+    (cases-lt c (length ms))
 
 -- one channel more
 pub record Turn (ms : List Model) (c sum w : ℕ) : Type 0 where
@@ -48,8 +48,8 @@ pub record Turn (ms : List Model) (c sum w : ℕ) : Type 0 where
 
 pub turn : (ms : List Model) (c sum w : ℕ) → AllLawful ms → c < length (few ms) → sum ≤ 256 * c → sum ≡ offset (few ms) c → w ≡ at ms c .width → Turn ms c sum w
 turn ms c sum w law h l e is =
-  let n = length-take 8 ms in
-  let f = law c (omega arith) .few in
-  let a : at (few ms) c .width ≡ at ms c .width = ap (λ (m : Model). m .width) (few-at ms c h) in
-  let m = offset-more (few ms) c h in
-  record { low = omega arith; next = omega arith; small = omega arith }
+    let n = length-take 8 ms in
+    let f = law c (omega arith) .few in
+    let a : at (few ms) c .width ≡ at ms c .width = ap (λ (m : Model). m .width) (few-at ms c h) in
+    let m = offset-more (few ms) c h in
+    record { low = omega arith; next = omega arith; small = omega arith }

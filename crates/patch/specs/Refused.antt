@@ -33,15 +33,15 @@ pub record AllComparable (ms : List Model) (weights q o : List ℕ) : Type 0 whe
 -- why not in one channel
 abbrev pub channel-refusal : List Model → (c : ℕ) (q o : List ℕ) → Option Refusal
 channel-refusal ms c q o =
-  cond (ltb 8 (length ms)) (Some TooManyChannels)
-  (cond (ltb c (length ms))
+    cond (ltb 8 (length ms)) (Some TooManyChannels)
+    (cond (ltb c (length ms))
     (cond (whole ms q && whole ms o) None (Some WrongRowsLength))
     (Some NoSuchChannel))
 
 -- why not in every channel
 abbrev pub aggregate-refusal : List Model → (weights q o : List ℕ) → Option Refusal
 aggregate-refusal ms weights q o =
-  cond (ltb 8 (length ms)) (Some TooManyChannels)
-  (cond (whole ms q && whole ms o)
+    cond (ltb 8 (length ms)) (Some TooManyChannels)
+    (cond (whole ms q && whole ms o)
     (cond (eqb (length weights) (length ms)) None (Some WrongWeightsLength))
     (Some WrongRowsLength))

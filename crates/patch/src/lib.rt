@@ -58,7 +58,12 @@ fn distance_in<S: ChannelSet>(set: &mut S, c: usize, query: &[u8], patch: &[u8])
 }
 
 // Whether two patches can be compared in channel c.
-fn check_channel<S: ChannelSet>(set: &S, c: usize, query: &[u8], patch: &[u8]) -> Result<(), Refusal>
+fn check_channel<S: ChannelSet>(
+    set: &S,
+    c: usize,
+    query: &[u8],
+    patch: &[u8],
+) -> Result<(), Refusal>
     ensures value { λ r. ⌜ r ≡ answered (channel-refusal (models (now (set .entry))) c (now (query .entry)) (now (patch .entry))) tt ⌝ }
     ensures passes { λ r. ⌜ (isOk r ≡ true → Comparable (models (now (set .entry))) c (now (query .entry)) (now (patch .entry))) ⌝ }
 {
@@ -76,7 +81,12 @@ fn check_channel<S: ChannelSet>(set: &S, c: usize, query: &[u8], patch: &[u8]) -
 }
 
 /// The distance of two patches in channel c. Refused, in this order: 13, 5, 1.
-pub fn channel_distance<S: ChannelSet>(set: &mut S, c: usize, query: &[u8], patch: &[u8]) -> Result<u16, Refusal>
+pub fn channel_distance<S: ChannelSet>(
+    set: &mut S,
+    c: usize,
+    query: &[u8],
+    patch: &[u8],
+) -> Result<u16, Refusal>
     ensures value { λ r. ⌜ r ≡ answered (channel-refusal (models (now (set .entry))) c (now (query .entry)) (now (patch .entry))) (distance-in (models (now (set .entry))) (now (query .entry)) (now (patch .entry)) c) ⌝ }
     ensures refused { λ r. ⌜ (isOk r ≡ false → now (set .exit) ≡ now (set .entry)) ⌝ }
     ensures kept { λ _. ⌜ models (now (set .exit)) ≡ models (now (set .entry)) ⌝ }
@@ -87,7 +97,13 @@ pub fn channel_distance<S: ChannelSet>(set: &mut S, c: usize, query: &[u8], patc
 }
 
 // The weighted distance of two patches in channel c.
-fn weighted_in<S: ChannelSet>(set: &mut S, c: usize, weights: &[u8], query: &[u8], patch: &[u8]) -> Weighted
+fn weighted_in<S: ChannelSet>(
+    set: &mut S,
+    c: usize,
+    weights: &[u8],
+    query: &[u8],
+    patch: &[u8],
+) -> Weighted
     requires comparable { ⌜ Comparable (models (now set)) c (now query) (now patch) ⌝ }
     requires weights { ⌜ length (now weights) ≡ length (models (now set)) ⌝ }
     ensures value { λ r. ⌜ r ≡ weighted (models (now (set .entry))) (now (weights .entry)) (now (query .entry)) (now (patch .entry)) c ⌝ }
@@ -99,7 +115,13 @@ fn weighted_in<S: ChannelSet>(set: &mut S, c: usize, weights: &[u8], query: &[u8
 }
 
 // The aggregate of the weighted distances.
-fn aggregate_all<S: ChannelSet, A: Aggregate>(set: &mut S, aggregate: &A, weights: &[u8], query: &[u8], patch: &[u8]) -> Weighted
+fn aggregate_all<S: ChannelSet, A: Aggregate>(
+    set: &mut S,
+    aggregate: &A,
+    weights: &[u8],
+    query: &[u8],
+    patch: &[u8],
+) -> Weighted
     requires { ⌜ AllComparable (models (now set)) (now weights) (now query) (now patch) ⌝ }
     ensures value { λ r. ⌜ r ≡ A·Aggregate .meaning (now (aggregate .entry)) (all-weighted (models (now (set .entry))) (now (weights .entry)) (now (query .entry)) (now (patch .entry))) ⌝ }
     ensures kept { λ _. ⌜ models (now (set .exit)) ≡ models (now (set .entry)) ⌝ }
@@ -114,7 +136,12 @@ fn aggregate_all<S: ChannelSet, A: Aggregate>(set: &mut S, aggregate: &A, weight
 }
 
 // Whether two patches can be compared in every channel.
-fn check_all<S: ChannelSet>(set: &S, weights: &[u8], query: &[u8], patch: &[u8]) -> Result<(), Refusal>
+fn check_all<S: ChannelSet>(
+    set: &S,
+    weights: &[u8],
+    query: &[u8],
+    patch: &[u8],
+) -> Result<(), Refusal>
     ensures value { λ r. ⌜ r ≡ answered (aggregate-refusal (models (now (set .entry))) (now (weights .entry)) (now (query .entry)) (now (patch .entry))) tt ⌝ }
     ensures passes { λ r. ⌜ (isOk r ≡ true → AllComparable (models (now (set .entry))) (now (weights .entry)) (now (query .entry)) (now (patch .entry))) ⌝ }
 {
@@ -132,7 +159,13 @@ fn check_all<S: ChannelSet>(set: &S, weights: &[u8], query: &[u8], patch: &[u8])
 }
 
 /// The aggregate of the weighted distances of two patches. Refused, in this order: 13, 1, 8.
-pub fn aggregated_distance<S: ChannelSet, A: Aggregate>(set: &mut S, aggregate: &A, weights: &[u8], query: &[u8], patch: &[u8]) -> Result<Weighted, Refusal>
+pub fn aggregated_distance<S: ChannelSet, A: Aggregate>(
+    set: &mut S,
+    aggregate: &A,
+    weights: &[u8],
+    query: &[u8],
+    patch: &[u8],
+) -> Result<Weighted, Refusal>
     ensures value { λ r. ⌜ r ≡ answered (aggregate-refusal (models (now (set .entry))) (now (weights .entry)) (now (query .entry)) (now (patch .entry))) (A·Aggregate .meaning (now (aggregate .entry)) (all-weighted (models (now (set .entry))) (now (weights .entry)) (now (query .entry)) (now (patch .entry)))) ⌝ }
     ensures refused { λ r. ⌜ (isOk r ≡ false → now (set .exit) ≡ now (set .entry)) ⌝ }
     ensures kept { λ _. ⌜ models (now (set .exit)) ≡ models (now (set .entry)) ⌝ }

@@ -32,8 +32,8 @@ number UnknownAggregate = 16
 -- every case, by rising number
 abbrev pub listed : List Refusal
 listed =
-  WrongRowsLength ∷ AlreadyHeld ∷ Full ∷ NotHeld ∷ NoSuchChannel ∷ PivotsFull ∷ NoSuchPivot ∷ WrongWeightsLength
-  ∷ NothingWanted ∷ HitsTooShort ∷ ScratchTooShort ∷ BadStore ∷ TooManyChannels ∷ UnknownCommand ∷ CutShort ∷ UnknownAggregate ∷ []
+    WrongRowsLength ∷ AlreadyHeld ∷ Full ∷ NotHeld ∷ NoSuchChannel ∷ PivotsFull ∷ NoSuchPivot ∷ WrongWeightsLength
+    ∷ NothingWanted ∷ HitsTooShort ∷ ScratchTooShort ∷ BadStore ∷ TooManyChannels ∷ UnknownCommand ∷ CutShort ∷ UnknownAggregate ∷ []
 
 -- there are sixteen cases, numbered 1 to 16, and no other
 pub record Listed : Type 0 where

@@ -11,7 +11,9 @@ use patch::channel_distance;
 pub fn asks_no_other() -> bool
     ensures { λ r. ⌜ r ≡ false ⌝ }
 {
-    let mut set = Single { metric: Recorder::new() };
+    let mut set = Single {
+        metric: Recorder::new(),
+    };
     let _ = channel_distance(&mut set, 0, &[1], &[2]);
     set.metric.was_asked(1, 3)
 }

@@ -60,7 +60,9 @@ fn widths_and_greatest_distances() -> Result<(), Fail> {
 
 #[test]
 fn questions_are_recorded() -> Result<(), Fail> {
-    let mut set = Single { metric: Recorder::new() };
+    let mut set = Single {
+        metric: Recorder::new(),
+    };
     check_eq(channel_distance(&mut set, 0, &[1], &[2]).ok(), Some(1))?;
     check(set.metric.was_asked(1, 2))?;
     check(!set.metric.was_asked(2, 1))

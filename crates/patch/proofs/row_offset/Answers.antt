@@ -18,11 +18,11 @@ loop-i-again g c = (next g c .next, next g c .low)
 
 pub returns : need.returns
 returns g c =
-  let ms = g .S·ChannelSet .models (c .args .set .now) in
-  let v = c .loop-i .inv .0 ∙ offset-end (few ms) (c .loop-i .i) (c .args .c) (omega arith) (omega arith) in
-  record {
-    value = v;
-    past = λ h. v ∙ offset-all (few ms) (c .args .c) (omega (arith, length-take 8 ms));
-    all = λ h k. v ∙ offset-all (few ms) (c .args .c) (omega (arith, length-take 8 ms)) ∙ ap patch-width (few-all ms k);
-    bound = omega arith;
-  }
+    let ms = g .S·ChannelSet .models (c .args .set .now) in
+    let v = c .loop-i .inv .0 ∙ offset-end (few ms) (c .loop-i .i) (c .args .c) (omega arith) (omega arith) in
+    record {
+      value = v;
+      past = λ h. v ∙ offset-all (few ms) (c .args .c) (omega (arith, length-take 8 ms));
+      all = λ h k. v ∙ offset-all (few ms) (c .args .c) (omega (arith, length-take 8 ms)) ∙ ap patch-width (few-all ms k);
+      bound = omega arith;
+    }

@@ -7,10 +7,10 @@ use Rattle.patch.proofs.weighted_in.Needs as need
 
 pub returns : need.returns
 returns g c =
-  let w = getD (c .args .weights .now) (c .args .c) 0 in
-  record {
-    value = ap (λ (d : ℕ). w * d) (c .distance-in .ensures .value);
-    small = mul-le w (c .distance-in .result) 255 65280 (omega (arith, c .typed .weights (c .args .c))) (c .distance-in .ensures .small);
-    kept = c .distance-in .ensures .kept;
-    adds = c .distance-in .ensures .adds;
-  }
+    let w = getD (c .args .weights .now) (c .args .c) 0 in
+    record {
+      value = ap (λ (d : ℕ). w * d) (c .distance-in .ensures .value);
+      small = mul-le w (c .distance-in .result) 255 65280 (omega (arith, c .typed .weights (c .args .c))) (c .distance-in .ensures .small);
+      kept = c .distance-in .ensures .kept;
+      adds = c .distance-in .ensures .adds;
+    }

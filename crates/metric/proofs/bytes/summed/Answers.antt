@@ -11,4 +11,4 @@ loop-i-again g c = (
 
 pub returns : need.returns
 returns g c =
-  across-all by-sum (g .D·ByteDistance .between) (c .loop-i .i) _ (c .args .a .now) (c .args .b .now) (c .loop-i-test .left) (c .pre .alike) (c .loop-i .inv .1)
+    across-all by-sum (g .D·ByteDistance .between) (c .loop-i .i) _ (c .args .a .now) (c .args .b .now) (c .loop-i-test .left) (c .pre .alike) (c .loop-i .inv .1)

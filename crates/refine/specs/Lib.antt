@@ -1,0 +1,11 @@
+pub mod Orders
+pub mod OrderLaws
+pub mod Chains
+pub mod Scan
+pub mod Steps
+pub mod Plans
+pub mod Theorems
+pub mod Bounds
+pub mod Questions
+pub mod Searches
+pub mod Worked
