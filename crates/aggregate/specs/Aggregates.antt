@@ -5,11 +5,11 @@ use Prim.Native.Nat.{ℕ, _+_, _≤_, min, max}
 use lib.ListN.{length, getD}
 use Rattle.std.specs.Iters.{folded}
 
--- what an aggregate may be asked about: 1 to 8 weighted distances, each at most 255 * 65280
+-- what an aggregate may be asked about: 1 to 8 numbers, each at most a weight times a number of 16 bits, 255 * 65535
 pub record Entries (xs : List ℕ) : Type 0 where
   pub some : 1 ≤ length xs
   pub few : length xs ≤ 8
-  pub small : (k : ℕ) → getD xs k 0 ≤ 16646400
+  pub small : (k : ℕ) → getD xs k 0 ≤ 16711425
 
 -- ys is xs with some entries raised
 pub record Raised (xs ys : List ℕ) : Type 0 where

@@ -28,7 +28,7 @@ table-small m table c v h e t k = ⊎-elim
     (cases-eq k c)
 
 -- the first n are what an aggregate may be asked about
-pub table-entries : (n : ℕ) (table : List ℕ) → 1 ≤ n → n ≤ 8 → length table ≡ 8 → ((k : ℕ) → getD table k 0 ≤ 16646400) → Entries (take (n - 0) table)
+pub table-entries : (n : ℕ) (table : List ℕ) → 1 ≤ n → n ≤ 8 → length table ≡ 8 → ((k : ℕ) → getD table k 0 ≤ 16711425) → Entries (take (n - 0) table)
 table-entries n table some few long small =
     let e : n - 0 ≡ n = omega arith in
     rw e (record {

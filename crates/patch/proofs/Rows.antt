@@ -2,12 +2,11 @@
 use mathlib.Core.Path.{_≡_, refl, sym, ap, _∙_}
 use mathlib.Core.List.{List, [], _∷_}
 use Prim.Native.Nat.{ℕ, zero, suc, _+_, _*_, _-_, _≤_, _<_}
-use native.Mathlib.Nat.{le-trans}
 use native.Mathlib.Omega.{arith}
 use lib.ListN.{length, getD, take, drop, length-take, length-drop}
-use Rattle.metric.specs.Model.{Model, Row, Lawful}
-use Rattle.metric.specs.Channels.{AllLawful, at}
-use Rattle.patch.specs.Patches.{few, offset, patch-width, row, distance-in}
+use Rattle.metric.specs.Model.{Model, Row}
+use Rattle.metric.specs.Channels.{at}
+use Rattle.patch.specs.Patches.{few, offset, patch-width, row}
 use Rattle.patch.proofs.Widths.{few-all, row-ends}
 
 abbrev pub Bytes : List ℕ → Type 0
@@ -31,9 +30,6 @@ module _ (ms : List Model) (c : ℕ) (h : c < length ms) where
     long = omega (arith, length-take (at ms c .width) (drop (offset ms c) x), length-drop (offset ms c) x, row-ends ms c h);
     bytes = take-bytes (at ms c .width) (drop (offset ms c) x) (drop-bytes (offset ms c) x b);
   }
-
-  pub distance-small : AllLawful ms → (q o : List ℕ) → length q ≡ patch-width ms → length o ≡ patch-width ms → Bytes q → Bytes o → distance-in ms q o c ≤ 65280
-  distance-small law q o e f b d = le-trans (law c h .bounded _ _ (row-is-row q e b) (row-is-row o f d)) (law c h .small)
 
 -- the part from `start` to `start + w` is the row
 pub cut-is-row : (ms : List Model) (c start w : ℕ) (x : List ℕ) → length ms ≤ 8 → start ≡ offset (few ms) c → w ≡ at ms c .width

@@ -48,7 +48,6 @@ pub fn patch_bytes<S: ChannelSet>(set: &S) -> usize
 fn distance_in<S: ChannelSet>(set: &mut S, c: usize, query: &[u8], patch: &[u8]) -> u16
     requires { ⌜ Comparable (models (now set)) c (now query) (now patch) ⌝ }
     ensures value { λ r. ⌜ r ≡ distance-in (models (now (set .entry))) (now (query .entry)) (now (patch .entry)) c ⌝ }
-    ensures small { λ r. ⌜ r ≤ 65280 ⌝ }
     ensures kept { λ _. ⌜ models (now (set .exit)) ≡ models (now (set .entry)) ⌝ }
     ensures adds { λ _. ⌜ AddsAt (asked (now (set .entry))) (asked (now (set .exit))) c (row (models (now (set .entry))) c (now (query .entry))) (row (models (now (set .entry))) c (now (patch .entry))) ⌝ }
 {
@@ -107,7 +106,7 @@ fn weighted_in<S: ChannelSet>(
     requires comparable { ⌜ Comparable (models (now set)) c (now query) (now patch) ⌝ }
     requires weights { ⌜ length (now weights) ≡ length (models (now set)) ⌝ }
     ensures value { λ r. ⌜ r ≡ weighted (models (now (set .entry))) (now (weights .entry)) (now (query .entry)) (now (patch .entry)) c ⌝ }
-    ensures small { λ r. ⌜ r ≤ 16646400 ⌝ }
+    ensures small { λ r. ⌜ r ≤ 16711425 ⌝ }
     ensures kept { λ _. ⌜ models (now (set .exit)) ≡ models (now (set .entry)) ⌝ }
     ensures adds { λ _. ⌜ AddsAt (asked (now (set .entry))) (asked (now (set .exit))) c (row (models (now (set .entry))) c (now (query .entry))) (row (models (now (set .entry))) c (now (patch .entry))) ⌝ }
 {

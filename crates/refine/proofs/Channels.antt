@@ -50,14 +50,14 @@ module _ (m : ℕ) where
   beyond : (f : ℕ → ℕ) (k : ℕ) → m ≤ k → getD (map f (counting 0 m)) k 0 ≡ 0
   beyond f k h = getD-past (map f (counting 0 m)) k 0 (omega (arith, length-map-counting f 0 m))
 
-  pub asked : 1 ≤ m → m ≤ 8 → (f : ℕ → ℕ) → ((c : ℕ) → c < m → f c ≤ 16646400) → Entries (map f (counting 0 m))
+  pub asked : 1 ≤ m → m ≤ 8 → (f : ℕ → ℕ) → ((c : ℕ) → c < m → f c ≤ 16711425) → Entries (map f (counting 0 m))
   asked some few f h = record {
     some = omega (arith, length-map-counting f 0 m);
     few = omega (arith, length-map-counting f 0 m);
     small = λ k. at k (cases-lt k m);
   }
     where
-      at : (k : ℕ) → (k < m) ⊎ (m ≤ k) → getD (map f (counting 0 m)) k 0 ≤ 16646400
+      at : (k : ℕ) → (k < m) ⊎ (m ≤ k) → getD (map f (counting 0 m)) k 0 ≤ 16711425
       at k (inl l) = let g = h k l in omega (arith, here f k l)
       at k (inr l) = omega (arith, beyond f k l)
 
@@ -86,8 +86,8 @@ module _ (c : Channel) (b : Bracketed c) where
   choice-under true = b .upper
   choice-under false = omega (arith, b .lower, b .upper)
 
-  upper-small : c .weight * c .upper ≤ 16646400
-  upper-small = mul-le (c .weight) (c .upper) 255 65280 (b .weight) (b .small)
+  upper-small : c .weight * c .upper ≤ 16711425
+  upper-small = mul-le (c .weight) (c .upper) 255 65535 (b .weight) (b .small)
 
 -- ---- the chain
 

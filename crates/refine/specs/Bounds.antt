@@ -44,7 +44,7 @@ pub record Channel : Type 0 where
 pub record Bracketed (c : Channel) : Type 0 where
   pub lower : c .lower ≤ c .dist
   pub upper : c .dist ≤ c .upper
-  pub small : c .upper ≤ 65280
+  pub small : c .upper ≤ 65535
   pub weight : c .weight ≤ 255
 
 -- how much is unknown of a channel, weighted

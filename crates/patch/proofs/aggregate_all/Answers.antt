@@ -31,7 +31,7 @@ loop-c-again g c =
       c .weighted-in .ensures .kept ∙ e,
       length-set _ _ _ ∙ c .loop-c .inv .1,
       table-more (weighted ms (c .args .weights .now) q o) (c .loop-c .entries) i (c .weighted-in .result) lt v (c .loop-c .inv .2),
-      table-small 16646400 (c .loop-c .entries) i (c .weighted-in .result) lt (c .weighted-in .ensures .small) (c .loop-c .inv .3),
+      table-small 16711425 (c .loop-c .entries) i (c .weighted-in .result) lt (c .weighted-in .ensures .small) (c .loop-c .inv .3),
       rows-more _ _ _ ms i q o (c .loop-c .inv .4) (subst (λ (ls : List Model). AddsAt (s .asked (c .loop-c .set)) (s .asked (c .weighted-in .last .set)) i (row ls i q) (row ls i o)) e (c .weighted-in .ensures .adds)),
     )
 

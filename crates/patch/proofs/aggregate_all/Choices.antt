@@ -11,5 +11,5 @@ Inv-loop-c g l =
     (s .models (l .set) ≡ ms)
     × (length (l .entries) ≡ 8)
     × ((k : ℕ) → k < l .c → getD (l .entries) k 0 ≡ weighted ms (l .weights) (l .query) (l .patch) k)
-    × ((k : ℕ) → getD (l .entries) k 0 ≤ 16646400)
+    × ((k : ℕ) → getD (l .entries) k 0 ≤ 16711425)
     × AddsRows (s .asked (l .entry .set)) (s .asked (l .set)) ms (l .c) (l .query) (l .patch)

@@ -6,7 +6,7 @@ use borrow.Author.Needs.{needs}
 use lib.ListN.{length}
 use Rattle.metric.specs.Channels.{at}
 use Rattle.patch.specs.Patches.{row}
-use Rattle.patch.proofs.Rows.{cut-is-row, cut-ends, dist-at, distance-small}
+use Rattle.patch.proofs.Rows.{cut-is-row, cut-ends, dist-at}
 use Rattle.patch.proofs.distance_in.Needs as need
 
 pub part-distance-end : need.part-distance-end
@@ -32,7 +32,6 @@ returns g c =
     let v = dist-at (at ms i) (c .distance .result) _ _ (row ms i q) (row ms i o) a b (c .distance .ensures .value) in
     record {
       value = v;
-      small = omega (arith, v, distance-small ms i (c .pre .channel) (g .S·ChannelSet·met .lawful (c .args .set .now)) q o (c .pre .query) (c .pre .patch) (λ k. omega (arith, c .typed .query k)) (λ k. omega (arith, c .typed .patch k)));
       kept = c .distance .ensures .kept;
       adds = λ k x y h. ⊎-elim inl (λ t. inr (t .0, t .1 ∙ a, t .2 ∙ b)) (c .distance .ensures .adds k x y h);
     }
