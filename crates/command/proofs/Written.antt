@@ -25,6 +25,10 @@ use Rattle.command.specs.Commands.{Instruction, insert, remove, add-pivot, rem
 pub came : {V : Type 0} (P : Option V → Type 0) (o : Option V) (r : Result V Refusal) (v : V) → o ≡ okPart r → r ≡ Ok v → P o → P (Some v)
 came P o r v e f p = subst P (e ∙ ap okPart f) p
 
+pub empty : (l : List ℕ) → length l < 1 → l ≡ []
+empty [] h = refl
+empty (x ∷ l) h = absurd (omega arith)
+
 -- the parts of a search, joined
 pub nearest-joined : (bytes r₁ r₂ r₃ ws rows rest : List ℕ) (g k radius budget : ℕ)
     → bytes ≡ g ∷ r₁ → r₁ ≡ ws ++ r₂ → r₂ ≡ be16 k ++ (be32 radius ++ (be32 budget ++ r₃)) → r₃ ≡ rows ++ rest

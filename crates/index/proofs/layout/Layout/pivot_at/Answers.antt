@@ -1,0 +1,11 @@
+use mathlib.Core.Path.{refl}
+use native.Mathlib.Omega.{arith}
+use Rattle.index.proofs.Spans.{next-le}
+use Rattle.index.proofs.layout.Layout.pivot_at.Needs as need
+
+pub returns : need.returns
+returns c = record {
+  at = refl;
+  begins = omega arith;
+  ends = omega (arith, next-le (c .args .pivot) 8 (c .args .width) (c .pre .pivot), c .pre .sound .distances, c .pre .inside);
+}

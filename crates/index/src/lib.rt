@@ -1,0 +1,8 @@
+//! The index: patches and their distances to pivots, in a lent store.
+mod bytes;
+pub mod counts;
+pub mod laws;
+pub mod layout;
+pub mod pivot_index;
+mod steps;
+mod works;
