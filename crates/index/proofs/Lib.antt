@@ -4,6 +4,7 @@ pub mod Eaches
 pub mod Stores
 pub mod Workings
 pub mod Records
+pub mod Nexts
 mod PutParts
 mod Fields
 mod Turning

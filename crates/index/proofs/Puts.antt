@@ -1,13 +1,13 @@
 -- What a write to the store leaves.
-use mathlib.Core.Path.{_≡_, refl, sym, ap, _∙_}
-use mathlib.Core.List.{List, [], _∷_, _++_}
+use mathlib.Core.Path.{_≡_, sym, ap, _∙_}
+use mathlib.Core.List.{List}
 use mathlib.Core.Logic.{_⊎_, inl, inr}
-use Prim.Native.Nat.{ℕ, _+_, _*_, _-_, _<_, _≤_}
+use Prim.Native.Nat.{ℕ, _+_, _-_, _≤_}
 use native.Mathlib.Omega.{arith}
 use borrow.Author.Needs.{needs}
-use lib.ListN.{length, getD, take, drop}
+use lib.ListN.{length, take, drop}
 use lib.Seq.{paste}
-use Rattle.std.proofs.shelf.Lists.{places, same-lists, length-take, length-drop, length-append, getD-take, getD-drop}
+use Rattle.std.proofs.shelf.Lists.{places, same-lists, length-take, length-drop, length-append}
 use Rattle.index.specs.Bytes.{put, part}
 
 pub length-put : (at : ℕ) (ys xs : List ℕ) → at + length ys ≤ length xs → length (put at ys xs) ≡ length xs

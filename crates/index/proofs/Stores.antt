@@ -1,25 +1,25 @@
 -- The loops of src/steps.rt, a turn each.
-use mathlib.Core.Path.{_≡_, refl, sym, ap, subst, _∙_}
+use mathlib.Core.Path.{_≡_, sym, ap, subst, _∙_}
 use mathlib.Core.List.{List}
 use mathlib.Core.Logic.{_⊎_, inl, inr, ⊎-elim}
-use Prim.Native.Nat.{ℕ, _+_, _-_, _*_, _<_, _≤_, min, _^_}
+use Prim.Native.Nat.{ℕ, _+_, _-_, _<_, _≤_}
 use native.Mathlib.Omega.{arith}
-use lib.ListN.{length, take, drop, length-take}
+use lib.ListN.{length, take, drop}
 use Rattle.metric.specs.Model.{Model}
-use Rattle.metric.specs.Channels.{Asked, AddsAt, at, count}
+use Rattle.metric.specs.Channels.{Asked, AddsAt, at}
 use Rattle.big_endian.specs.Numbers.{be16}
 use Rattle.patch.specs.Patches.{few, offset, patch-width, row}
 use Rattle.patch.proofs.Widths.{few-at, row-ends}
 use Rattle.index.specs.declared.counts.Counts.{Counts}
 use Rattle.index.specs.declared.layout.Layout.{Layout}
-use Rattle.index.specs.Asks.{AddsOnly, InsertAsks, PivotAsks}
+use Rattle.index.specs.Asks.{AddsOnly, InsertAsks}
 use Rattle.index.specs.Bytes.{put, part}
 use Rattle.index.specs.Layouts.{layout-of, row-at, pivot-at, distance-at}
 use Rattle.index.specs.Limits.{pivots-in}
-use Rattle.index.specs.Steps.{each, slot-row, pivot-row, store-distance, store-channel, store-own}
-use Rattle.index.specs.Works.{Ready, InUse, OwnAsks}
+use Rattle.index.specs.Steps.{each, slot-row, pivot-row, store-distance, store-own}
+use Rattle.index.specs.Works.{Ready, InUse}
 use Rattle.index.proofs.Eaches.{each-more}
-use Rattle.index.proofs.Puts.{part-same, cut, take-put, length-part}
+use Rattle.index.proofs.Puts.{part-same, cut, length-part}
 use Rattle.index.proofs.Spans.{next-le}
 
 -- the row as code cuts it
@@ -117,7 +117,7 @@ module _ (ms ms₁ : List Model) (same : ms₁ ≡ ms) (c : ℕ) (h : c < length
 pub ready-again : (ms ms₁ : List Model) (k : Counts) (l : Layout) (b b₁ : List ℕ) → ms₁ ≡ ms → length b₁ ≡ length b → Ready (few ms) k l b → Ready (few ms₁) k l b₁
 ready-again ms ms₁ k l b b₁ same long r = record {
   sound = r .sound;
-  laid = r .laid ∙ ap (λ (ls : List Model). layout-of (few ls) (k .capacity)) (sym same);
+  layout = r .layout ∙ ap (λ (ls : List Model). layout-of (few ls) (k .capacity)) (sym same);
   slots = r .slots;
   row = r .row ∙ ap (λ (ls : List Model). patch-width (few ls)) (sym same);
   channels = r .channels ∙ ap (λ (ls : List Model). length (few ls)) (sym same);
@@ -140,5 +140,5 @@ insert-asks-below ms ms₁ k l b b₀ rows same r below c x y h =
     (λ j p lt q.
     let lt8 : p < 8 = omega (arith, r .eight j) in
     let z : pivot-row (few ms) l j p b ≡ pivot-row (few ms) l j p b₀ = part-same (l .distances) _ _ b b₀ (pivot-ends (few ms) k l b₀ j p r lt lt8) below in
-    subst (λ (m : Layout). pivot-row (few ms) m j p b ≡ pivot-row (few ms) m j p b₀) (r .laid) z)
+    subst (λ (m : Layout). pivot-row (few ms) m j p b ≡ pivot-row (few ms) m j p b₀) (r .layout) z)
     c x y (subst (λ (ls : List Model). InsertAsks (few ls) k b rows c x y) same h)

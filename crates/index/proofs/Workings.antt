@@ -1,14 +1,14 @@
 -- What the calls leave of the rows that they ask about.
-use mathlib.Core.Path.{_≡_, refl, sym, ap, subst, _∙_}
+use mathlib.Core.Path.{_≡_, sym, ap, subst, _∙_}
 use mathlib.Core.List.{List}
-use mathlib.Core.Logic.{_⊎_, inl, inr}
-use Prim.Native.Nat.{ℕ, _+_, _*_, _<_, _≤_}
+use mathlib.Core.Logic.{inl, inr}
+use Prim.Native.Nat.{ℕ, _+_, _<_, _≤_}
 use native.Mathlib.Omega.{arith}
-use lib.ListN.{length, take}
+use lib.ListN.{length}
 use Rattle.metric.specs.Model.{Model}
-use Rattle.metric.specs.Channels.{Asked, at}
+use Rattle.metric.specs.Channels.{at}
 use Rattle.big_endian.specs.Numbers.{be16}
-use Rattle.patch.specs.Patches.{few, offset, patch-width}
+use Rattle.patch.specs.Patches.{offset, patch-width}
 use Rattle.patch.proofs.Widths.{row-ends}
 use Rattle.index.specs.declared.counts.Counts.{Counts}
 use Rattle.index.specs.declared.layout.Layout.{Layout}
@@ -57,7 +57,7 @@ module _ (ms : List Model) (k : Counts) (l : Layout) (b : List ℕ) (r : Ready m
       ap (part P n) w
       ∙ part-put-other (row-at l slot) P n rows (put (number-at slot) (be16 a) b) fits₁ (inr o₁)
       ∙ part-put-other (number-at slot) P n (be16 a) b fits₂ (inr o₂) in
-      subst (λ (m : Layout). pivot-row ms m c p b₂ ≡ pivot-row ms m c p b) (r .laid) z
+      subst (λ (m : Layout). pivot-row ms m c p b₂ ≡ pivot-row ms m c p b) (r .layout) z
 
   -- a new pivot is the row of its slot, and leaves the rows of the slots
   pub pivot-asks : (c p slot : ℕ) (b₂ : List ℕ) → c < length ms → p < 8 → slot < k .held
@@ -82,4 +82,4 @@ module _ (ms : List Model) (k : Counts) (l : Layout) (b : List ℕ) (r : Ready m
       let o : (row-at l i + offset ms c) + n ≤ P = omega arith in
       let ey : y ≡ slot-row ms l c slot b = t .1 ∙ ap (part P n) w ∙ part-put-same P n (slot-row ms l c slot b) b fits (sym long) in
       let ex : x ≡ slot-row ms l c i b = t .2 .2 ∙ ap (part (row-at l i + offset ms c) n) w ∙ part-put-other P (row-at l i + offset ms c) n (slot-row ms l c slot b) b fits (inl o) in
-      (t .0, ey ∙ ap (λ (m : Layout). slot-row ms m c slot b) (r .laid), (i, t .2 .1, ex ∙ ap (λ (m : Layout). slot-row ms m c i b) (r .laid)))
+      (t .0, ey ∙ ap (λ (m : Layout). slot-row ms m c slot b) (r .layout), (i, t .2 .1, ex ∙ ap (λ (m : Layout). slot-row ms m c i b) (r .layout)))

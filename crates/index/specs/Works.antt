@@ -22,7 +22,7 @@ use Rattle.index.specs.Steps.{slot-row, pivot-row}
 -- a store that is long enough for its layout, and counts within their limits
 pub record Ready (ms : List Model) (k : Counts) (l : Layout) (b : List ℕ) : Type 0 where
   pub sound : Sound l
-  pub laid : l ≡ layout-of ms (k .capacity)
+  pub layout : l ≡ layout-of ms (k .capacity)
   pub slots : l .capacity ≡ k .capacity
   pub row : l .row ≡ patch-width ms
   pub channels : l .channels ≡ length ms

@@ -26,7 +26,7 @@ pub struct Layout {
 pub fn layout_of<S: ChannelSet>(set: &S, capacity: u16) -> Layout
     requires { ⌜ capacity ≤ 4096 ⌝ }
     ensures sound { λ r. ⌜ Sound r ⌝ }
-    ensures laid { λ r. ⌜ r ≡ layout-of (few (models (now (set .entry)))) capacity ⌝ }
+    ensures value { λ r. ⌜ r ≡ layout-of (few (models (now (set .entry)))) capacity ⌝ }
     ensures slots { λ r. ⌜ r .capacity ≡ capacity ⌝ }
     ensures row { λ r. ⌜ r .row ≡ patch-width (few (models (now (set .entry)))) ⌝ }
     ensures channels { λ r. ⌜ r .channels ≡ length (few (models (now (set .entry)))) ⌝ }
@@ -49,15 +49,15 @@ pub fn layout_of<S: ChannelSet>(set: &S, capacity: u16) -> Layout
     }
 }
 
-/// Where the row of a channel lies in a patch.
+// Where the row of a channel lies in a patch.
 #[derive(Clone, Copy)]
-pub struct RowSpan {
-    pub start: usize,
-    pub width: usize,
+pub(crate) struct RowSpan {
+    pub(crate) start: usize,
+    pub(crate) width: usize,
 }
 
-/// Where the row of channel c lies.
-pub fn row_span<S: ChannelSet>(set: &S, l: &Layout, c: usize) -> RowSpan
+// Where the row of channel c lies.
+pub(crate) fn row_span<S: ChannelSet>(set: &S, l: &Layout, c: usize) -> RowSpan
     requires channel { ⌜ c < length (few (models (now set))) ⌝ }
     requires channels { ⌜ now l .channels ≡ length (few (models (now set))) ⌝ }
     requires row { ⌜ now l .row ≡ patch-width (few (models (now set))) ⌝ }
@@ -70,6 +70,34 @@ pub fn row_span<S: ChannelSet>(set: &S, l: &Layout, c: usize) -> RowSpan
 }
 
 impl Layout {
+    // Where the rows of a slot lie, by the formula alone; so for the two below.
+    fn row_address(&self, slot: usize) -> usize
+        requires sound { ⌜ Sound (now self) ⌝ }
+        requires slot { ⌜ slot < now self .capacity ⌝ }
+        ensures { λ r. ⌜ r ≡ row-at (now (self .entry)) slot ⌝ }
+    {
+        self.rows + slot * self.row
+    }
+
+    fn pivot_address(&self, before: usize, width: usize, pivot: usize) -> usize
+        requires sound { ⌜ Sound (now self) ⌝ }
+        requires inside { ⌜ before + width ≤ now self .row ⌝ }
+        requires pivot { ⌜ pivot < 8 ⌝ }
+        ensures { λ r. ⌜ r ≡ pivot-at (now (self .entry)) before width pivot ⌝ }
+    {
+        self.pivots + 8 * before + pivot * width
+    }
+
+    fn distance_address(&self, slot: usize, channel: usize, pivot: usize) -> usize
+        requires sound { ⌜ Sound (now self) ⌝ }
+        requires slot { ⌜ slot < now self .capacity ⌝ }
+        requires channel { ⌜ channel < now self .channels ⌝ }
+        requires pivot { ⌜ pivot < 8 ⌝ }
+        ensures { λ r. ⌜ r ≡ distance-at (now (self .entry)) slot channel pivot ⌝ }
+    {
+        self.distances + (slot * self.channels + channel) * 16 + 2 * pivot
+    }
+
     /// Where the rows of a slot begin.
     pub fn row_at(&self, slot: usize) -> usize
         requires sound { ⌜ Sound (now self) ⌝ }
@@ -78,7 +106,7 @@ impl Layout {
         ensures begins { λ r. ⌜ now (self .entry) .rows ≤ r ⌝ }
         ensures ends { λ r. ⌜ r + now (self .entry) .row ≤ now (self .entry) .pivots ⌝ }
     {
-        self.rows + slot * self.row
+        self.row_address(slot)
     }
 
     /// Where the row of a pivot begins, in a channel whose rows begin at `before` in a patch.
@@ -90,7 +118,7 @@ impl Layout {
         ensures begins { λ r. ⌜ now (self .entry) .pivots ≤ r ⌝ }
         ensures ends { λ r. ⌜ r + width ≤ now (self .entry) .distances ⌝ }
     {
-        self.pivots + 8 * before + pivot * width
+        self.pivot_address(before, width, pivot)
     }
 
     /// Where the distance of a slot's row in a channel to a pivot stands.
@@ -103,7 +131,7 @@ impl Layout {
         ensures begins { λ r. ⌜ now (self .entry) .distances ≤ r ⌝ }
         ensures ends { λ r. ⌜ r + 2 ≤ now (self .entry) .size ⌝ }
     {
-        self.distances + (slot * self.channels + channel) * 16 + 2 * pivot
+        self.distance_address(slot, channel, pivot)
     }
 
     /// Where the distances of a slot begin: eight in each channel.
@@ -113,6 +141,6 @@ impl Layout {
         ensures at { λ r. ⌜ r ≡ distance-at (now (self .entry)) slot 0 0 ⌝ }
         ensures ends { λ r. ⌜ r + 16 * now (self .entry) .channels ≤ now (self .entry) .size ⌝ }
     {
-        self.distances + slot * self.channels * 16
+        self.distance_address(slot, 0, 0)
     }
 }

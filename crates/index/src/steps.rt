@@ -47,7 +47,8 @@ pub fn first_slot(store: &[u8], held: u16, accession: u16) -> Option<u16>
 // One pivot more.
 pub fn grow(r: &mut ChannelRecord)
     requires { ⌜ now r .pivots < 8 ⌝ }
-    ensures { λ _. ⌜ now (r .exit) ≡ record { pivots = now (r .entry) .pivots + 1 } ⌝ }
+    ensures is { λ _. ⌜ now (r .exit) ≡ record { pivots = now (r .entry) .pivots + 1 } ⌝ }
+    ensures small { λ _. ⌜ now (r .exit) .pivots ≤ 8 ⌝ }
 {
     r.pivots += 1;
 }

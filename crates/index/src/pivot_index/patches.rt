@@ -51,6 +51,29 @@ impl<S: ChannelSet> PivotIndex<S> {
         ensures asks { λ _. ⌜ AddsOnly (asked (now (self .entry) .set)) (asked (now (self .exit) .set)) (InsertAsks (few (models (now (self .entry) .set))) (now (self .entry) .counts) (now (store .entry)) (now (rows .entry))) ⌝ }
         ensures history { λ _. ⌜ ((cap : ℕ) (b : List ℕ) (h : List Call) → Holds (models (now (self .entry) .set)) (now (self .entry) .counts) (now (store .entry)) cap b h → Holds (models (now (self .exit) .set)) (now (self .exit) .counts) (now (store .exit)) cap b (inserting accession (now (rows .entry)) ∷ h)) ⌝ }
     {
+        self.try_insert(store, accession, rows)
+    }
+
+    /// Takes out the patch of an accession number; the patch of the last slot moves into its slot. Refused, in this order: 12, 4.
+    pub fn remove(&mut self, store: &mut [u8], accession: u16) -> Result<(), Refusal>
+        ensures answer { λ r. ⌜ r ≡ answered (remove-refusal (few (models (now (self .entry) .set))) (now (self .entry) .counts) (now (store .entry)) accession) tt ⌝ }
+        ensures counts { λ _. ⌜ now (self .exit) .counts ≡ remove-counts (few (models (now (self .entry) .set))) (now (self .entry) .counts) (now (store .entry)) accession ⌝ }
+        ensures bytes { λ _. ⌜ now (store .exit) ≡ remove-bytes (few (models (now (self .entry) .set))) (now (self .entry) .counts) (now (store .entry)) accession ⌝ }
+        ensures same { λ _. ⌜ now (self .exit) .set ≡ now (self .entry) .set ⌝ }
+        ensures history { λ _. ⌜ ((cap : ℕ) (b : List ℕ) (h : List Call) → Holds (models (now (self .entry) .set)) (now (self .entry) .counts) (now (store .entry)) cap b h → Holds (models (now (self .exit) .set)) (now (self .exit) .counts) (now (store .exit)) cap b (removing accession ∷ h)) ⌝ }
+    {
+        self.try_remove(store, accession)
+    }
+
+    // Insert, by its rule.
+    fn try_insert(&mut self, store: &mut [u8], accession: u16, rows: &[u8]) -> Result<(), Refusal>
+        ensures answer { λ r. ⌜ r ≡ answered (insert-refusal (few (models (now (self .entry) .set))) (now (self .entry) .counts) (now (store .entry)) accession (now (rows .entry))) tt ⌝ }
+        ensures counts { λ _. ⌜ now (self .exit) .counts ≡ insert-counts (few (models (now (self .entry) .set))) (now (self .entry) .counts) (now (store .entry)) accession (now (rows .entry)) ⌝ }
+        ensures bytes { λ _. ⌜ now (store .exit) ≡ insert-bytes (few (models (now (self .entry) .set))) (now (self .entry) .counts) (now (store .entry)) accession (now (rows .entry)) ⌝ }
+        ensures same { λ _. ⌜ models (now (self .exit) .set) ≡ models (now (self .entry) .set) ⌝ }
+        ensures refused { λ r. ⌜ (isOk r ≡ false → now (self .exit) .set ≡ now (self .entry) .set) ⌝ }
+        ensures asks { λ _. ⌜ AddsOnly (asked (now (self .entry) .set)) (asked (now (self .exit) .set)) (InsertAsks (few (models (now (self .entry) .set))) (now (self .entry) .counts) (now (store .entry)) (now (rows .entry))) ⌝ }
+    {
         let l = self.layout_in(store)?;
         if rows.len() != l.row {
             return Err(Refusal::WrongRowsLength);
@@ -67,13 +90,12 @@ impl<S: ChannelSet> PivotIndex<S> {
         Ok(())
     }
 
-    /// Takes out the patch of an accession number; the patch of the last slot moves into its slot. Refused, in this order: 12, 4.
-    pub fn remove(&mut self, store: &mut [u8], accession: u16) -> Result<(), Refusal>
+    // Remove, by its rule.
+    fn try_remove(&mut self, store: &mut [u8], accession: u16) -> Result<(), Refusal>
         ensures answer { λ r. ⌜ r ≡ answered (remove-refusal (few (models (now (self .entry) .set))) (now (self .entry) .counts) (now (store .entry)) accession) tt ⌝ }
         ensures counts { λ _. ⌜ now (self .exit) .counts ≡ remove-counts (few (models (now (self .entry) .set))) (now (self .entry) .counts) (now (store .entry)) accession ⌝ }
         ensures bytes { λ _. ⌜ now (store .exit) ≡ remove-bytes (few (models (now (self .entry) .set))) (now (self .entry) .counts) (now (store .entry)) accession ⌝ }
         ensures same { λ _. ⌜ now (self .exit) .set ≡ now (self .entry) .set ⌝ }
-        ensures history { λ _. ⌜ ((cap : ℕ) (b : List ℕ) (h : List Call) → Holds (models (now (self .entry) .set)) (now (self .entry) .counts) (now (store .entry)) cap b h → Holds (models (now (self .exit) .set)) (now (self .exit) .counts) (now (store .exit)) cap b (removing accession ∷ h)) ⌝ }
     {
         let l = self.layout_in(store)?;
         let Some(slot) = first_slot(store, self.counts.held, accession) else {

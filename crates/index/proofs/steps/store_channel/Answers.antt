@@ -6,15 +6,14 @@ use borrow.Author.Needs.{needs}
 use lib.ListN.{length, take, drop}
 use Rattle.metric.specs.Model.{Model}
 use Rattle.metric.specs.Channels.{at, count}
-use Rattle.patch.specs.Patches.{few, offset, row, patch-width}
+use Rattle.patch.specs.Patches.{few, row}
 use Rattle.index.specs.declared.layout.Layout.{Layout}
 use Rattle.big_endian.specs.Numbers.{be16}
 use Rattle.index.specs.Asks.{InsertAsks}
 use Rattle.index.specs.Bytes.{put, part}
-use Rattle.index.specs.Layouts.{layout-of, pivot-at}
 use Rattle.index.specs.Limits.{pivots-in}
 use Rattle.index.specs.Steps.{each, pivot-row, store-distance}
-use Rattle.index.proofs.Puts.{part-same, take-put}
+use Rattle.index.proofs.Puts.{take-put}
 use Rattle.index.proofs.Stores.{row-cut, row-long, model-in-use, pivot-begins, pivot-same, store-more, adds-pair}
 use Rattle.index.proofs.steps.store_channel.Needs as need
 
@@ -73,7 +72,7 @@ loop-p-again g c =
     let ends : from + length y ≤ l .distances = omega (arith, ap length e, n, u .wide, c .pivot-at-from .ensures .ends) in
     let fits : to + 2 ≤ length b = omega (arith, c .distance-at-to .ensures .ends, c .pre .ready .long, c .loop-p .kept .store) in
     let wrote = c .store-distance .ensures .bytes in
-    let q = pivot-same (few ms) l i p (length y) from b b₀ (ap length e ∙ n) f ends (c .loop-p .inv .2) ∙ ap (λ (z : Layout). pivot-row (few ms) z i p b₀) (c .pre .ready .laid) in (
+    let q = pivot-same (few ms) l i p (length y) from b b₀ (ap length e ∙ n) f ends (c .loop-p .inv .2) ∙ ap (λ (z : Layout). pivot-row (few ms) z i p b₀) (c .pre .ready .layout) in (
       c .store-distance .ensures .kept ∙ same,
       store-more ms ms₁ same i (c .pre .channel) l (c .args .slot) p from to x b b₀ (c .store-distance .last .store) n f (c .distance-at-to .ensures .at)
           (wrote ∙ ap (λ (r : List ℕ). put to (be16 (at ms₁ i .dist r (part from (length r) b))) b) e) (c .loop-p .inv .1),

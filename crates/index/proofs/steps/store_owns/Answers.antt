@@ -1,18 +1,17 @@
 use mathlib.Core.Path.{_≡_, _∙_, ap, sym, subst, refl}
 use mathlib.Core.List.{List}
-use Prim.Native.Nat.{ℕ, _+_, _≤_, _<_}
+use Prim.Native.Nat.{_+_, _≤_, _<_}
 use native.Mathlib.Omega.{arith}
 use lib.ListN.{length, take}
 use Rattle.metric.specs.Model.{Model}
 use Rattle.metric.specs.Channels.{at, count}
 use Rattle.patch.specs.Patches.{few, offset}
 use Rattle.big_endian.specs.Numbers.{be16}
-use Rattle.index.specs.declared.layout.Layout.{Layout}
-use Rattle.index.specs.Bytes.{put, part}
+use Rattle.index.specs.Bytes.{part}
 use Rattle.index.specs.Layouts.{row-at}
-use Rattle.index.specs.Steps.{each, store-own}
+use Rattle.index.specs.Steps.{store-own}
 use Rattle.index.specs.Works.{OwnAsks}
-use Rattle.index.proofs.Puts.{part-same, take-put}
+use Rattle.index.proofs.Puts.{take-put}
 use Rattle.index.proofs.Stores.{model-in-use, pivot-begins, pivot-same, own-row-same, own-more, adds-pair}
 use Rattle.index.proofs.steps.store_owns.Needs as need
 

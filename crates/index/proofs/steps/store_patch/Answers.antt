@@ -1,14 +1,12 @@
 use mathlib.Core.Path.{_≡_, _∙_, ap, sym, subst}
 use mathlib.Core.List.{List}
-use Prim.Native.Nat.{ℕ, _+_, _≤_, _<_}
+use Prim.Native.Nat.{ℕ, _<_}
 use native.Mathlib.Omega.{arith}
-use lib.ListN.{length, take}
+use lib.ListN.{length}
 use Rattle.metric.specs.Model.{Model}
 use Rattle.patch.specs.Patches.{few, patch-width}
-use Rattle.index.specs.declared.layout.Layout.{Layout}
 use Rattle.index.specs.Asks.{InsertAsks}
 use Rattle.index.specs.Steps.{each, store-channel}
-use Rattle.index.specs.Works.{Ready}
 use Rattle.index.proofs.Eaches.{each-more}
 use Rattle.index.proofs.Stores.{ready-again, insert-asks-below, adds-more, adds-among}
 use Rattle.index.proofs.steps.store_patch.Needs as need

@@ -1,10 +1,8 @@
-use mathlib.Core.Path.{_≡_, _∙_, ap}
-use mathlib.Core.List.{List}
+use mathlib.Core.Path.{_∙_, ap}
 use lib.ListN.{length}
 use Rattle.big_endian.specs.Numbers.{be16}
 use Rattle.patch.specs.Patches.{few}
 use Rattle.index.specs.declared.layout.Layout.{Layout}
-use Prim.Native.Nat.{ℕ}
 use Rattle.index.specs.Asks.{InsertAsks}
 use Rattle.index.specs.Bytes.{put}
 use Rattle.index.specs.Layouts.{number-at, row-at}
@@ -28,7 +26,7 @@ returns g c =
       bytes =
           c .store-patch .ensures .bytes
           ∙ ap (each (length ms) (store-channel ms l k (k .held) rows)) (c .put-patch .ensures)
-          ∙ ap (λ (z : Layout). each (length ms) (store-channel ms z k (k .held) rows) (put (row-at z (k .held)) rows (put (number-at (k .held)) (be16 a) b))) (c .pre .ready .laid);
+          ∙ ap (λ (z : Layout). each (length ms) (store-channel ms z k (k .held) rows) (put (row-at z (k .held)) rows (put (number-at (k .held)) (be16 a) b))) (c .pre .ready .layout);
       asks =
           adds-among (s .asked (c .args .set .now)) (s .asked (c .store-patch .last .set)) (InsertAsks ms k b₂ rows) (InsertAsks ms k b rows)
           (insert-asks-same ms k b₂ b rows (patch-leaves ms k l b (c .pre .ready) (k .held) a rows b₂ (c .pre .free) (c .pre .rows) (c .put-patch .ensures)))

@@ -1,15 +1,12 @@
-use mathlib.Core.Path.{_≡_, _∙_, ap}
-use mathlib.Core.List.{List}
+use mathlib.Core.Path.{_∙_, ap}
 use Prim.Native.Nat.{ℕ}
 use native.Mathlib.Omega.{arith}
-use lib.ListN.{length}
 use Rattle.metric.specs.Channels.{at}
 use Rattle.patch.specs.Patches.{few, offset}
 use Rattle.index.specs.declared.layout.Layout.{Layout}
 use Rattle.index.specs.Asks.{PivotAsks}
 use Rattle.index.specs.Bytes.{put}
 use Rattle.index.specs.Layouts.{layout-of, pivot-at}
-use Rattle.index.specs.Limits.{pivots-in}
 use Rattle.index.specs.Steps.{each, slot-row, store-own}
 use Rattle.index.specs.Works.{OwnAsks}
 use Rattle.index.proofs.Stores.{adds-among}
@@ -33,7 +30,7 @@ returns g c =
       bytes =
           c .store-owns .ensures .bytes
           ∙ ap (each (k .held) (store-own ms l i p)) (c .put-pivot .ensures)
-          ∙ ap (λ (z : Layout). each (k .held) (store-own ms z i p) (put (pivot-at z (offset ms i) (at ms i .width) p) (slot-row ms z i slot b) b)) (c .pre .ready .laid)
+          ∙ ap (λ (z : Layout). each (k .held) (store-own ms z i p) (put (pivot-at z (offset ms i) (at ms i .width) p) (slot-row ms z i slot b) b)) (c .pre .ready .layout)
           ∙ ap (λ (q : ℕ). each (k .held) (store-own ms (layout-of ms (k .capacity)) i q) (put (pivot-at (layout-of ms (k .capacity)) (offset ms i) (at ms i .width) q) (slot-row ms (layout-of ms (k .capacity)) i slot b) b)) e;
       asks =
           adds-among (s .asked (c .args .set .now)) (s .asked (c .store-owns .last .set)) (OwnAsks ms l (k .held) b₂ i p) (PivotAsks ms k b i slot)

@@ -1,13 +1,15 @@
-use mathlib.Core.Path.{_≡_, ap}
-use Prim.Native.Nat.{_-_}
-use native.Mathlib.Omega.{arith}
-use Rattle.index.specs.declared.counts.ChannelRecord.{ChannelRecord}
-use Rattle.index.specs.Limits.{pivots-in}
-use Rattle.index.proofs.Records.{low-set}
+use mathlib.Core.Path.{ap}
+use Rattle.index.specs.History.{remove-pivot}
+use Rattle.index.proofs.Nexts.{holds-next}
 use Rattle.index.proofs.pivot_index.PivotIndex.remove_pivot.Needs as need
 
-pub ghost-self : need.ghost-self
-ghost-self g c =
-    let k = c .args .self .now .counts in
-    let e : c .shrink .last .r .pivots ≡ pivots-in k (c .args .channel) - 1 = ap (λ (x : ChannelRecord). x .pivots) (c .shrink .ensures) in
-    (c .args .self .now .fits, (c .args .self .now .small, (low-set (k .channels) (c .args .channel) (c .shrink .last .r) (c .args .self .now .low) (omega (arith, c .args .self .now .low (c .args .channel))), tt)))
+pub returns : need.returns
+returns g c =
+    let r = c .try-remove-pivot .ensures in
+    record {
+      answer = r .answer;
+      counts = r .counts;
+      bytes = r .bytes;
+      same = r .same;
+      history = holds-next _ _ _ _ _ _ (remove-pivot (c .args .channel) (c .args .pivot)) tt (ap (g .S·ChannelSet .models) (c .try-remove-pivot .ensures .same)) (r .counts) (r .bytes);
+    }
