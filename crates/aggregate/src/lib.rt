@@ -1,4 +1,6 @@
 //! Aggregates: one number made of a patch's weighted distances.
+#![tactic(auto)]
+
 ghost use Rattle.std.specs.Prelude.{◌≡◌, ℕ, ◌<◌, List, MatchOption};
 ghost use Rattle.aggregate.specs.Aggregates.{Entries, LawfulAggregate, total, greatest, smallest};
 ghost use Rattle.aggregate.specs.Choices.{chosen, number};

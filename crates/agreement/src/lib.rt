@@ -1,4 +1,6 @@
 //! Two indexes asked the same question: that they agree is known before they are run.
+#![tactic(auto)]
+
 ghost use Rattle.search.specs.Promised.{question};
 ghost use Rattle.agreement.specs.Agreements.{Agree, found};
 

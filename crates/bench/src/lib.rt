@@ -1,4 +1,6 @@
 //! The four channels of the bench: bands, ink, grain and depth.
+#![tactic(auto)]
+
 ghost use Rattle.std.specs.Prelude.{◌≡◌};
 
 use metric::channels::{Pair, Single};

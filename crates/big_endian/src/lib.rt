@@ -1,4 +1,6 @@
 //! Numbers as bytes, the most significant first.
+#![tactic(auto)]
+
 ghost use Rattle.std.specs.Prelude.{◌≡◌, ◌+◌, ◌*◌, [], ◌∷◌};
 ghost use Rattle.big_endian.specs.Numbers.{be16, be32, Front};
 

@@ -1,4 +1,6 @@
 //! Commands to an index, read from bytes.
+#![tactic(auto)]
+
 ghost use Rattle.std.specs.Prelude.{◌≡◌, ℕ, ◌+◌, ◌<◌, [], ◌∷◌, ◌++◌, length, MatchOption, MatchResult, slice_index};
 ghost use Rattle.big_endian.specs.Numbers.{be16, be32};
 ghost use Rattle.command.specs.Commands.{Part, Operands, Behind, InFront, Next, Exact};

@@ -1,4 +1,6 @@
 //! The bench program's commands, served: bytes in, lines out.
+#![tactic(auto)]
+
 ghost use Rattle.std.specs.Prelude.{◌≡◌, ℕ, List, ◌++◌, IfOk, string_bytes, OnOk};
 ghost use Rattle.command.specs.Commands.{meant};
 ghost use Rattle.patch.specs.Patches.{few};

@@ -1,4 +1,5 @@
 //! Examples of what the bench program prints, over the bench's four channels and 64 slots.
+#![tactic(auto)]
 
 #[cfg(test)]
 mod tests {

@@ -1,4 +1,6 @@
 //! A visitor's first program: two patches are measured against a query on the bench's four channels.
+#![tactic(auto)]
+
 use aggregate::{Max, Min, Sum, Weighted};
 use anyhow::anyhow;
 use bench::{Bench, bench};

@@ -1,4 +1,6 @@
 //! An index for programs in C or Rust: one lent memory, commands in, answers out.
+#![tactic(auto)]
+
 mod answers;
 pub mod bench_index;
 pub mod distances;

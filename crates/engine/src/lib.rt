@@ -1,4 +1,6 @@
 //! The step engine: the step rule on slots, over any source of bounds and distances.
+#![tactic(auto)]
+
 mod bounds;
 mod gaps;
 mod passes;

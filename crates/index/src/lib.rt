@@ -1,4 +1,6 @@
 //! The index: patches and their distances to pivots, in a lent store.
+#![tactic(auto)]
+
 mod bytes;
 mod checks;
 pub mod counts;

@@ -1,4 +1,5 @@
 //! Examples of what the calls of an index do.
+#![tactic(auto)]
 
 #[cfg(test)]
 mod tests {

@@ -1,4 +1,6 @@
 //! Metrics on rows of bytes, and sets of channels made of them.
+#![tactic(auto)]
+
 ghost use Rattle.std.specs.Prelude.{◌≡◌, ℕ, List, length};
 ghost use Rattle.metric.specs.Model.{Model, Lawful, Adds};
 

@@ -1,4 +1,6 @@
 //! Patches: rows joined in channel order, and the distances between two of them.
+#![tactic(auto)]
+
 ghost use Rattle.std.specs.Prelude.{◌≡◌, ℕ, ◌<◌, ◌≤◌, true, false, length, is_ok};
 ghost use Rattle.metric.specs.Channels.{AddsAt};
 ghost use Rattle.patch.specs.Patches.{few, offset, patch_width, row, distance_in, weighted, all_weighted, AddsRows};

@@ -2,3 +2,4 @@
 //!
 //! The definitions stand in specs/: Held (what the bytes of a store give for a query) and Promise. The lemma that joins them,
 //! `kept` in proofs/Kept, is cited by the search's contract.
+#![tactic(auto)]

@@ -5,6 +5,8 @@
 //! where the first `len` were a heap they are one after, and the record taken was the least.
 //!
 //! A crate queues a record kind of its own by an `impl Ranked`; proofs/Orders has laws to cite for an order of several numbers.
+#![tactic(auto)]
+
 pub mod drain;
 pub mod heap;
 pub mod rank;

@@ -4,6 +4,8 @@
 //! finished list, need); Steps (the step rule and its runs); Plans; Theorems; Bounds (from pivots and channels to chains); Questions
 //! (the tables of a question to an index); Searches (the theorems over these); Worked (examples). Each function below promises
 //! theorems.
+#![tactic(auto)]
+
 ghost use Rattle.std.specs.Prelude.{◌≡◌, ℕ, length};
 ghost use Rattle.patch.specs.Patches.{Patch};
 ghost use Rattle.refine.specs.Searches.{BetweenBounds, OnePlace, OneEntry, ChannelsToChains, PosedRefinable, ScanIsOne, SearchesEnd, SearchesAgree};

@@ -1,4 +1,6 @@
 //! Why a call that cannot be served is refused.
+#![tactic(auto)]
+
 ghost use Rattle.std.specs.Prelude.{◌≡◌, MatchOption};
 ghost use Rattle.refusal.specs.Refusals.{number, listed, Listed};
 

@@ -1,4 +1,6 @@
 //! The search over an index, and what it promises.
+#![tactic(auto)]
+
 ghost use Rattle.std.specs.Prelude.{◌≡◌, ℕ, ◌≤◌, List, ◌∷◌, length, replicate};
 ghost use Rattle.patch.specs.Patches.{few};
 ghost use Rattle.index.specs.History.{Call, Holds, nearest as searching};

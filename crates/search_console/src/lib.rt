@@ -1,4 +1,6 @@
 //! The bench program's commands, served: bytes in, lines out.
+#![tactic(auto)]
+
 ghost use Rattle.std.specs.Prelude.{◌≡◌, ℕ, List, ◌++◌, length, IfOk, string_bytes, OnOk};
 ghost use Rattle.patch.specs.Patches.{few};
 ghost use Rattle.search_console.specs.Promises.{Promised};

@@ -1,4 +1,6 @@
 //! A visitor's first program: two patches are measured against a query, then two suppliers are asked which patches are nearest to it.
+#![tactic(auto)]
+
 use anyhow::anyhow;
 use compare::compare_two;
 use questions::{QUESTIONS, Question};

@@ -1,4 +1,5 @@
 //! The search executed on many cases: the rules' examples, drawn cases against a full scan, faults, records, and stores that others wrote.
+#![tactic(auto)]
 
 #[cfg(test)]
 mod ask;

@@ -1,4 +1,6 @@
 //! The bench program: commands from standard input, lines to standard output.
+#![tactic(auto)]
+
 ghost use Rattle.std.specs.Prelude.{◌≤◌, length, IfOk};
 
 use anyhow::anyhow;

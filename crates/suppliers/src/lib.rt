@@ -1,4 +1,6 @@
 //! Metrics as an outside supplier writes them, and tests of what the library has built in.
+#![tactic(auto)]
+
 pub mod audit;
 #[cfg(test)]
 mod command_tests;
