@@ -1,6 +1,7 @@
 -- What each choice of an aggregate means.
 use Rattle.std.specs.Prelude.{ℕ, List}
-use Rattle.aggregate.specs.Aggregates.{total, greatest, smallest}
+use Rattle.aggregate.specs.Aggregates.{LawfulAggregate, total, greatest, smallest}
+use Rattle.aggregate.specs.Folds.{total_lawful, greatest_lawful, smallest_lawful}
 use Rattle.aggregate.specs.declared.Choice.{Choice}
 use Rattle.aggregate.specs.declared.Choice.TheVariants.{Sum, Max, Min}
 
@@ -8,6 +9,12 @@ abbrev pub chosen : Choice → List ℕ → ℕ
 chosen Sum = total
 chosen Max = greatest
 chosen Min = smallest
+
+-- each is lawful
+pub chosen_lawful : (c : Choice) → LawfulAggregate (chosen c)
+chosen_lawful Sum = total_lawful
+chosen_lawful Max = greatest_lawful
+chosen_lawful Min = smallest_lawful
 
 -- the number by which a command names it
 abbrev pub number : Choice → ℕ

@@ -3,7 +3,7 @@
 
 ghost use Rattle.std.specs.Prelude.{◌≡◌, ℕ, ◌<◌, List, MatchOption};
 ghost use Rattle.aggregate.specs.Aggregates.{Entries, LawfulAggregate, total, greatest, smallest};
-ghost use Rattle.aggregate.specs.Choices.{chosen, number};
+ghost use Rattle.aggregate.specs.Choices.{chosen, chosen_lawful, number};
 ghost use Rattle.aggregate.specs.Folds.{total_lawful, greatest_lawful, smallest_lawful};
 
 /// A weighted distance, or an aggregate of up to eight: at most 133,171,200.
@@ -100,6 +100,8 @@ impl Choice {
 
 impl Aggregate for Choice {
     ghost meaning = { chosen };
+
+    ghost lawful = { chosen_lawful };
 
     fn combine(&self, entries: &[Weighted]) -> Weighted {
         match self {

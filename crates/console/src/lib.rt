@@ -38,8 +38,8 @@ fn serve<S: ChannelSet>(
     store: &mut [u8],
     command: Command,
 ) -> (&'static str, u8)
-    ensures serves { Serves (few (models index.old.set)) (written index.old.counts store.old) (written index.new.counts store.new) (meant command.entry) result.0.now result.1 }
-    ensures same { models index.new.set ≡ models index.old.set }
+    ensures serves { Serves (few (S.models index.old.set)) (written index.old.counts store.old) (written index.new.counts store.new) (meant command.entry) result.0.now result.1 }
+    ensures same { S.models index.new.set ≡ S.models index.old.set }
 {
     match command {
         Command::Insert { accession, rows } => ("L", code(index.insert(store, accession, rows))),
@@ -81,9 +81,9 @@ fn turn<S: ChannelSet>(
     reader: &mut Reader,
     out: &mut String,
 ) -> Result<bool, fmt::Error>
-    ensures same { models index.new.set ≡ models index.old.set }
+    ensures same { S.models index.new.set ≡ S.models index.old.set }
     ensures format { reader.new.format ≡ reader.old.format }
-    ensures turn { IfOk result (λ more. (printed : List ℕ) × Turn (few (models index.old.set)) reader.old.format (written index.old.counts store.old) (written index.new.counts store.new) reader.old.rest.now reader.new.rest.now printed more × (string_bytes out.new ≡ string_bytes out.old ++ printed)) }
+    ensures turn { IfOk result (λ more. (printed : List ℕ) × Turn (few (S.models index.old.set)) reader.old.format (written index.old.counts store.old) (written index.new.counts store.new) reader.old.rest.now reader.new.rest.now printed more × (string_bytes out.new ≡ string_bytes out.old ++ printed)) }
 {
     let next = match next_command(reader) {
         Ok(next) => next,
@@ -109,8 +109,8 @@ pub fn run<S: ChannelSet>(
     input: &[u8],
     out: &mut String,
 ) -> fmt::Result
-    ensures same { models index.new.set ≡ models index.old.set }
-    ensures session { OnOk result ((printed : List ℕ) × Session (few (models index.old.set)) format (written index.old.counts store.old) input.now printed (written index.new.counts store.new) × (string_bytes out.new ≡ string_bytes out.old ++ printed)) }
+    ensures same { S.models index.new.set ≡ S.models index.old.set }
+    ensures session { OnOk result ((printed : List ℕ) × Session (few (S.models index.old.set)) format (written index.old.counts store.old) input.now printed (written index.new.counts store.new) × (string_bytes out.new ≡ string_bytes out.old ++ printed)) }
 {
     let mut reader = Reader::new(format, input);
     let mut more = true;

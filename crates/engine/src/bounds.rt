@@ -24,12 +24,12 @@ fn weighted<M, S: Source<M>>(
     slot: usize,
     c: usize,
 ) -> (Weighted, Weighted)
-    requires ready { ready source.now meter.now }
-    requires slot { slot < (tables source.now meter.now).slots }
-    requires channel { c < (tables source.now meter.now).channels }
-    requires weights { length weights.now ≡ (tables source.now meter.now).channels }
-    ensures lower { result.0 ≡ weighted_lower (tables source.now meter.now) weights.now slot c }
-    ensures upper { result.1 ≡ weighted_upper (tables source.now meter.now) weights.now slot c }
+    requires ready { S.ready source.now meter.now }
+    requires slot { slot < (S.tables source.now meter.now).slots }
+    requires channel { c < (S.tables source.now meter.now).channels }
+    requires weights { length weights.now ≡ (S.tables source.now meter.now).channels }
+    ensures lower { result.0 ≡ weighted_lower (S.tables source.now meter.now) weights.now slot c }
+    ensures upper { result.1 ≡ weighted_upper (S.tables source.now meter.now) weights.now slot c }
     ensures small { (result.0 ≤ 16711425) × (result.1 ≤ 16711425) }
 {
     let (lower, upper) = source.bounds(meter, slot, c);

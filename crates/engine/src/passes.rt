@@ -39,11 +39,11 @@ fn survey<M, S: Source<M>, A: Aggregate>(
     candidates: &mut [Candidate],
     uppers: &mut [Upper],
 ) -> usize
-    requires ready { ready source.now meter.now }
-    requires weighable { Weighable (tables source.now meter.now) weights.now }
-    requires room { (tables source.now meter.now).slots ≤ length candidates.old }
-    ensures bounds { FirstBounds (slot_family (tables source.now meter.now) weights.now (A.Aggregate.meaning aggregate.now)) (tables source.now meter.now).slots candidates.new }
-    ensures kept { KeptWhere k result (map (slot_family (tables source.now meter.now) weights.now (A.Aggregate.meaning aggregate.now)).upper (range_with_len 0 (tables source.now meter.now).slots)) uppers.old uppers.new }
+    requires ready { S.ready source.now meter.now }
+    requires weighable { Weighable (S.tables source.now meter.now) weights.now }
+    requires room { (S.tables source.now meter.now).slots ≤ length candidates.old }
+    ensures bounds { FirstBounds (slot_family (S.tables source.now meter.now) weights.now (A.Aggregate.meaning aggregate.now)) (S.tables source.now meter.now).slots candidates.new }
+    ensures kept { KeptWhere k result (map (slot_family (S.tables source.now meter.now) weights.now (A.Aggregate.meaning aggregate.now)).upper (range_with_len 0 (S.tables source.now meter.now).slots)) uppers.old uppers.new }
 {
     let mut len: usize = 0;
     for slot in 0..source.slots(meter) {
@@ -96,12 +96,12 @@ fn enter<M, S: Source<M>>(
     candidates: &mut [Candidate],
     len: usize,
 )
-    requires ready { ready source.now meter.now }
-    requires slot { slot < (tables source.now meter.now).slots }
-    requires few { (tables source.now meter.now).slots ≤ 4096 }
-    requires weighable { Weighable (tables source.now meter.now) weights.now }
+    requires ready { S.ready source.now meter.now }
+    requires slot { slot < (S.tables source.now meter.now).slots }
+    requires few { (S.tables source.now meter.now).slots ≤ 4096 }
+    requires weighable { Weighable (S.tables source.now meter.now) weights.now }
     requires room { len < length candidates.old }
-    ensures { (x : Candidate) × Unmeasured (tables source.now meter.now) weights.now slot bound x × Pushed ByBound len x candidates.old candidates.new }
+    ensures { (x : Candidate) × Unmeasured (S.tables source.now meter.now) weights.now slot bound x × Pushed ByBound len x candidates.old candidates.new }
 {
     let x = unmeasured(source, meter, weights, slot, bound);
     let _pushed = heap::push(candidates, len, x);

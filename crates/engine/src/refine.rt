@@ -64,12 +64,12 @@ fn search<M, S: Source<M>, A: Aggregate>(
     candidates: &mut [Candidate],
     uppers: &mut [Upper],
 ) -> Answer
-    requires ready { ready source.now meter.old }
-    requires fits { Ready (tables source.now meter.old) weights.now k (length hits.old) (length candidates.old) (length uppers.old) }
-    ensures ran { Ran (tables source.now meter.old) (asking weights.now (A.Aggregate.meaning aggregate.now) k radius budget) result hits.old hits.new (asked source.now meter.old) (asked source.now meter.new) }
-    ensures kept { tables source.now meter.new ≡ tables source.now meter.old }
-    ensures same { metrics source.now meter.new ≡ metrics source.now meter.old }
-    ensures ready { ready source.now meter.new }
+    requires ready { S.ready source.now meter.old }
+    requires fits { Ready (S.tables source.now meter.old) weights.now k (length hits.old) (length candidates.old) (length uppers.old) }
+    ensures ran { Ran (S.tables source.now meter.old) (asking weights.now (A.Aggregate.meaning aggregate.now) k radius budget) result hits.old hits.new (S.asked source.now meter.old) (S.asked source.now meter.new) }
+    ensures kept { S.tables source.now meter.new ≡ S.tables source.now meter.old }
+    ensures same { S.metrics source.now meter.new ≡ S.metrics source.now meter.old }
+    ensures ready { S.ready source.now meter.new }
     ensures hits { length hits.new ≡ length hits.old }
 {
     let wanted = k as usize;
@@ -111,12 +111,12 @@ pub fn refine<M, S: Source<M>, A: Aggregate>(
     candidates: &mut [Candidate],
     uppers: &mut [Upper],
 ) -> Answer
-    requires ready { ready source.now meter.old }
-    requires fits { Ready (tables source.now meter.old) weights.now k (length hits.old) (length candidates.old) (length uppers.old) }
-    ensures ran { Ran (tables source.now meter.old) (asking weights.now (A.Aggregate.meaning aggregate.now) k radius budget) result hits.old hits.new (asked source.now meter.old) (asked source.now meter.new) }
-    ensures kept { tables source.now meter.new ≡ tables source.now meter.old }
-    ensures same { metrics source.now meter.new ≡ metrics source.now meter.old }
-    ensures ready { ready source.now meter.new }
+    requires ready { S.ready source.now meter.old }
+    requires fits { Ready (S.tables source.now meter.old) weights.now k (length hits.old) (length candidates.old) (length uppers.old) }
+    ensures ran { Ran (S.tables source.now meter.old) (asking weights.now (A.Aggregate.meaning aggregate.now) k radius budget) result hits.old hits.new (S.asked source.now meter.old) (S.asked source.now meter.new) }
+    ensures kept { S.tables source.now meter.new ≡ S.tables source.now meter.old }
+    ensures same { S.metrics source.now meter.new ≡ S.metrics source.now meter.old }
+    ensures ready { S.ready source.now meter.new }
     ensures candidates { candidates.new ≡ replicate (length candidates.old) blank_candidate }
     ensures uppers { uppers.new ≡ replicate (length uppers.old) blank_upper }
     ensures hits { length hits.new ≡ length hits.old }

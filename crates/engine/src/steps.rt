@@ -73,15 +73,15 @@ fn advance<M, S: Source<M>, A: Aggregate>(
     weights: &[u8],
     top: Candidate,
 ) -> Candidate
-    requires ready { ready source.now meter.old }
-    requires weighable { Weighable (tables source.now meter.old) weights.now }
-    requires sound { Sound (tables source.now meter.old) weights.now top }
-    requires more { top.measured < (tables source.now meter.old).channels }
-    ensures next { Advanced (tables source.now meter.old) weights.now (A.Aggregate.meaning aggregate.now) top result }
-    ensures kept { tables source.now meter.new ≡ tables source.now meter.old }
-    ensures same { metrics source.now meter.new ≡ metrics source.now meter.old }
-    ensures ready { ready source.now meter.new }
-    ensures adds { AddsAt (asked source.now meter.old) (asked source.now meter.new) (slice_index top.order top.measured) ((tables source.now meter.old).left top.slot (slice_index top.order top.measured)) ((tables source.now meter.old).right top.slot (slice_index top.order top.measured)) }
+    requires ready { S.ready source.now meter.old }
+    requires weighable { Weighable (S.tables source.now meter.old) weights.now }
+    requires sound { Sound (S.tables source.now meter.old) weights.now top }
+    requires more { top.measured < (S.tables source.now meter.old).channels }
+    ensures next { Advanced (S.tables source.now meter.old) weights.now (A.Aggregate.meaning aggregate.now) top result }
+    ensures kept { S.tables source.now meter.new ≡ S.tables source.now meter.old }
+    ensures same { S.metrics source.now meter.new ≡ S.metrics source.now meter.old }
+    ensures ready { S.ready source.now meter.new }
+    ensures adds { AddsAt (S.asked source.now meter.old) (S.asked source.now meter.new) (slice_index top.order top.measured) ((S.tables source.now meter.old).left top.slot (slice_index top.order top.measured)) ((S.tables source.now meter.old).right top.slot (slice_index top.order top.measured)) }
 {
     let c = next_channel(&top);
     let distance = source.distance(meter, top.slot as usize, c);
@@ -106,19 +106,19 @@ fn measure<M, S: Source<M>, A: Aggregate>(
     at: Progress,
     top: Candidate,
 ) -> Progress
-    requires ready { ready source.now meter.old }
-    requires weighable { Weighable (tables source.now meter.old) weights.now }
-    requires sound { Sound (tables source.now meter.old) weights.now top }
-    requires more { top.measured < (tables source.now meter.old).channels }
+    requires ready { S.ready source.now meter.old }
+    requires weighable { Weighable (S.tables source.now meter.old) weights.now }
+    requires sound { Sound (S.tables source.now meter.old) weights.now top }
+    requires more { top.measured < (S.tables source.now meter.old).channels }
     requires some { 0 < at.waiting }
     requires within { at.waiting ≤ length candidates.old }
     requires count { at.measured < 4294967295 }
-    ensures replaced { (x : Candidate) × (y : Candidate) × Advanced (tables source.now meter.old) weights.now (A.Aggregate.meaning aggregate.now) top x × Replaced ByBound at.waiting x y candidates.old candidates.new }
+    ensures replaced { (x : Candidate) × (y : Candidate) × Advanced (S.tables source.now meter.old) weights.now (A.Aggregate.meaning aggregate.now) top x × Replaced ByBound at.waiting x y candidates.old candidates.new }
     ensures progress { result ≡ record { waiting = at.waiting; named = at.named; measured = at.measured + 1 } }
-    ensures kept { tables source.now meter.new ≡ tables source.now meter.old }
-    ensures same { metrics source.now meter.new ≡ metrics source.now meter.old }
-    ensures ready { ready source.now meter.new }
-    ensures adds { AddsAt (asked source.now meter.old) (asked source.now meter.new) (slice_index top.order top.measured) ((tables source.now meter.old).left top.slot (slice_index top.order top.measured)) ((tables source.now meter.old).right top.slot (slice_index top.order top.measured)) }
+    ensures kept { S.tables source.now meter.new ≡ S.tables source.now meter.old }
+    ensures same { S.metrics source.now meter.new ≡ S.metrics source.now meter.old }
+    ensures ready { S.ready source.now meter.new }
+    ensures adds { AddsAt (S.asked source.now meter.old) (S.asked source.now meter.new) (slice_index top.order top.measured) ((S.tables source.now meter.old).left top.slot (slice_index top.order top.measured)) ((S.tables source.now meter.old).right top.slot (slice_index top.order top.measured)) }
 {
     let next = advance(source, meter, aggregate, weights, top);
     let _before = heap::replace_top(candidates, at.waiting, next);

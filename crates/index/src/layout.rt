@@ -23,10 +23,10 @@ pub struct Layout {
 pub fn layout_of<S: ChannelSet>(set: &S, capacity: u16) -> Layout
     requires { capacity ≤ 4096 }
     ensures sound { Sound result }
-    ensures value { result ≡ layout_of (few (models set.now)) capacity }
+    ensures value { result ≡ layout_of (few (S.models set.now)) capacity }
     ensures slots { result.capacity ≡ capacity }
-    ensures row { result.row ≡ patch_width (few (models set.now)) }
-    ensures channels { result.channels ≡ length (few (models set.now)) }
+    ensures row { result.row ≡ patch_width (few (S.models set.now)) }
+    ensures channels { result.channels ≡ length (few (S.models set.now)) }
 {
     let channels = used_channels(set);
     let row = patch_bytes(set);
@@ -55,10 +55,10 @@ pub struct RowSpan {
 
 /// Where the row of channel c lies.
 pub fn row_span<S: ChannelSet>(set: &S, l: &Layout, c: usize) -> RowSpan
-    requires channel { c < length (few (models set.now)) }
-    requires channels { l.now.channels ≡ length (few (models set.now)) }
-    requires row { l.now.row ≡ patch_width (few (models set.now)) }
-    ensures { InUse (models set.now) l.now c result.start result.width }
+    requires channel { c < length (few (S.models set.now)) }
+    requires channels { l.now.channels ≡ length (few (S.models set.now)) }
+    requires row { l.now.row ≡ patch_width (few (S.models set.now)) }
+    ensures { InUse (S.models set.now) l.now c result.start result.width }
 {
     RowSpan {
         start: row_offset(set, c),

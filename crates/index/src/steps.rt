@@ -62,13 +62,13 @@ fn store_distance<S: ChannelSet>(
     from: usize,
     to: usize,
 )
-    requires channel { c < count (models set.old) }
-    requires row { length row.now ≡ (at (models set.old) c).width }
+    requires channel { c < count (S.models set.old) }
+    requires row { length row.now ≡ (at (S.models set.old) c).width }
     requires from { from + length row.now ≤ length store.old }
     requires to { to + 2 ≤ length store.old }
-    ensures kept { models set.new ≡ models set.old }
-    ensures bytes { store.new ≡ put to (be16 ((at (models set.old) c).dist row.now (part from (length row.now) store.old))) store.old }
-    ensures adds { AddsAt (asked set.old) (asked set.new) c row.now (part from (length row.now) store.old) }
+    ensures kept { S.models set.new ≡ S.models set.old }
+    ensures bytes { store.new ≡ put to (be16 ((at (S.models set.old) c).dist row.now (part from (length row.now) store.old))) store.old }
+    ensures adds { AddsAt (S.asked set.old) (S.asked set.new) c row.now (part from (length row.now) store.old) }
 {
     let n = row.len();
     let d = set.distance(c, row, &store[from..from + n]);
@@ -85,14 +85,14 @@ fn store_own<S: ChannelSet>(
     from: usize,
     to: usize,
 )
-    requires channel { c < count (models set.old) }
-    requires width { width ≡ (at (models set.old) c).width }
+    requires channel { c < count (S.models set.old) }
+    requires width { width ≡ (at (S.models set.old) c).width }
     requires own { own + width ≤ length store.old }
     requires from { from + width ≤ length store.old }
     requires to { to + 2 ≤ length store.old }
-    ensures kept { models set.new ≡ models set.old }
-    ensures bytes { store.new ≡ put to (be16 ((at (models set.old) c).dist (part own width store.old) (part from width store.old))) store.old }
-    ensures adds { AddsAt (asked set.old) (asked set.new) c (part own width store.old) (part from width store.old) }
+    ensures kept { S.models set.new ≡ S.models set.old }
+    ensures bytes { store.new ≡ put to (be16 ((at (S.models set.old) c).dist (part own width store.old) (part from width store.old))) store.old }
+    ensures adds { AddsAt (S.asked set.old) (S.asked set.new) c (part own width store.old) (part from width store.old) }
 {
     let d = set.distance(c, &store[own..own + width], &store[from..from + width]);
     put_u16(store, to, d);
@@ -108,14 +108,14 @@ fn store_channel<S: ChannelSet>(
     rows: &[u8],
     c: usize,
 )
-    requires ready { Ready (few (models set.old)) counts.now l.now store.old }
+    requires ready { Ready (few (S.models set.old)) counts.now l.now store.old }
     requires slot { slot < counts.now.capacity }
-    requires rows { length rows.now ≡ patch_width (few (models set.old)) }
-    requires channel { c < length (few (models set.old)) }
-    ensures kept { models set.new ≡ models set.old }
-    ensures bytes { store.new ≡ store_channel (few (models set.old)) l.now counts.now slot rows.now c store.old }
+    requires rows { length rows.now ≡ patch_width (few (S.models set.old)) }
+    requires channel { c < length (few (S.models set.old)) }
+    ensures kept { S.models set.new ≡ S.models set.old }
+    ensures bytes { store.new ≡ store_channel (few (S.models set.old)) l.now counts.now slot rows.now c store.old }
     ensures below { take l.now.distances store.new ≡ take l.now.distances store.old }
-    ensures asks { AddsOnly (asked set.old) (asked set.new) (InsertAsks (few (models set.old)) counts.now store.old rows.now) }
+    ensures asks { AddsOnly (S.asked set.old) (S.asked set.new) (InsertAsks (few (S.models set.old)) counts.now store.old rows.now) }
 {
     let RowSpan { start, width } = row_span(set, l, c);
     let row = &rows[start..start + width];
@@ -135,12 +135,12 @@ pub fn store_patch<S: ChannelSet>(
     slot: usize,
     rows: &[u8],
 )
-    requires ready { Ready (few (models set.old)) counts.now l.now store.old }
+    requires ready { Ready (few (S.models set.old)) counts.now l.now store.old }
     requires slot { slot < counts.now.capacity }
-    requires rows { length rows.now ≡ patch_width (few (models set.old)) }
-    ensures kept { models set.new ≡ models set.old }
-    ensures bytes { store.new ≡ each (length (few (models set.old))) (store_channel (few (models set.old)) l.now counts.now slot rows.now) store.old }
-    ensures asks { AddsOnly (asked set.old) (asked set.new) (InsertAsks (few (models set.old)) counts.now store.old rows.now) }
+    requires rows { length rows.now ≡ patch_width (few (S.models set.old)) }
+    ensures kept { S.models set.new ≡ S.models set.old }
+    ensures bytes { store.new ≡ each (length (few (S.models set.old))) (store_channel (few (S.models set.old)) l.now counts.now slot rows.now) store.old }
+    ensures asks { AddsOnly (S.asked set.old) (S.asked set.new) (InsertAsks (few (S.models set.old)) counts.now store.old rows.now) }
 {
     for c in 0..l.channels {
         store_channel(set, store, l, counts, slot, rows, c);
@@ -156,12 +156,12 @@ pub fn store_owns<S: ChannelSet>(
     c: usize,
     p: usize,
 )
-    requires ready { Ready (few (models set.old)) counts.now l.now store.old }
-    requires channel { c < length (few (models set.old)) }
+    requires ready { Ready (few (S.models set.old)) counts.now l.now store.old }
+    requires channel { c < length (few (S.models set.old)) }
     requires pivot { p < 8 }
-    ensures kept { models set.new ≡ models set.old }
-    ensures bytes { store.new ≡ each counts.now.held (store_own (few (models set.old)) l.now c p) store.old }
-    ensures asks { AddsOnly (asked set.old) (asked set.new) (OwnAsks (few (models set.old)) l.now counts.now.held store.old c p) }
+    ensures kept { S.models set.new ≡ S.models set.old }
+    ensures bytes { store.new ≡ each counts.now.held (store_own (few (S.models set.old)) l.now c p) store.old }
+    ensures asks { AddsOnly (S.asked set.old) (S.asked set.new) (OwnAsks (few (S.models set.old)) l.now counts.now.held store.old c p) }
 {
     let RowSpan { start, width } = row_span(set, l, c);
     let from = l.pivot_at(start, width, p);

@@ -39,12 +39,12 @@ pub fn store_next<S: ChannelSet>(
     accession: u16,
     rows: &[u8],
 )
-    requires ready { Ready (few (models set.old)) counts.now l.now store.old }
+    requires ready { Ready (few (S.models set.old)) counts.now l.now store.old }
     requires free { counts.now.held < counts.now.capacity }
-    requires rows { length rows.now ≡ patch_width (few (models set.old)) }
-    ensures kept { models set.new ≡ models set.old }
-    ensures bytes { store.new ≡ inserted_bytes (few (models set.old)) counts.now store.old accession rows.now }
-    ensures asks { AddsOnly (asked set.old) (asked set.new) (InsertAsks (few (models set.old)) counts.now store.old rows.now) }
+    requires rows { length rows.now ≡ patch_width (few (S.models set.old)) }
+    ensures kept { S.models set.new ≡ S.models set.old }
+    ensures bytes { store.new ≡ inserted_bytes (few (S.models set.old)) counts.now store.old accession rows.now }
+    ensures asks { AddsOnly (S.asked set.old) (S.asked set.new) (InsertAsks (few (S.models set.old)) counts.now store.old rows.now) }
 {
     let slot = counts.held as usize;
     put_patch(store, l, slot, accession, rows);
@@ -61,11 +61,11 @@ fn put_pivot<S: ChannelSet>(
     slot: usize,
     p: usize,
 )
-    requires ready { Ready (few (models set.now)) counts.now l.now store.old }
-    requires channel { c < length (few (models set.now)) }
+    requires ready { Ready (few (S.models set.now)) counts.now l.now store.old }
+    requires channel { c < length (few (S.models set.now)) }
     requires slot { slot < counts.now.capacity }
     requires pivot { p < 8 }
-    ensures { store.new ≡ put (pivot_at l.now (offset (few (models set.now)) c) (at (few (models set.now)) c).width p) (slot_row (few (models set.now)) l.now c slot store.old) store.old }
+    ensures { store.new ≡ put (pivot_at l.now (offset (few (S.models set.now)) c) (at (few (S.models set.now)) c).width p) (slot_row (few (S.models set.now)) l.now c slot store.old) store.old }
 {
     let RowSpan { start, width } = row_span(set, l, c);
     let from = l.row_at(slot) + start;
@@ -82,13 +82,13 @@ pub fn store_pivot<S: ChannelSet>(
     c: usize,
     slot: usize,
 )
-    requires ready { Ready (few (models set.old)) counts.now l.now store.old }
-    requires channel { c < length (few (models set.old)) }
+    requires ready { Ready (few (S.models set.old)) counts.now l.now store.old }
+    requires channel { c < length (few (S.models set.old)) }
     requires slot { slot < counts.now.held }
     requires room { pivots_in counts.now c < 8 }
-    ensures kept { models set.new ≡ models set.old }
-    ensures bytes { store.new ≡ added_bytes (few (models set.old)) counts.now c slot store.old }
-    ensures asks { AddsOnly (asked set.old) (asked set.new) (PivotAsks (few (models set.old)) counts.now store.old c slot) }
+    ensures kept { S.models set.new ≡ S.models set.old }
+    ensures bytes { store.new ≡ added_bytes (few (S.models set.old)) counts.now c slot store.old }
+    ensures asks { AddsOnly (S.asked set.old) (S.asked set.new) (PivotAsks (few (S.models set.old)) counts.now store.old c slot) }
 {
     let p = counts.pivots_in(c);
     put_pivot(set, store, l, counts, c, slot, p);
@@ -105,11 +105,11 @@ fn free_row<S: ChannelSet>(
     p: usize,
     last: usize,
 )
-    requires ready { Ready (few (models set.now)) counts.now l.now store.old }
-    requires channel { c < length (few (models set.now)) }
+    requires ready { Ready (few (S.models set.now)) counts.now l.now store.old }
+    requires channel { c < length (few (S.models set.now)) }
     requires pivot { p < 8 }
     requires last { last < 8 }
-    ensures { store.new ≡ moved (pivot_at l.now (offset (few (models set.now)) c) (at (few (models set.now)) c).width last) (pivot_at l.now (offset (few (models set.now)) c) (at (few (models set.now)) c).width p) (at (few (models set.now)) c).width store.old }
+    ensures { store.new ≡ moved (pivot_at l.now (offset (few (S.models set.now)) c) (at (few (S.models set.now)) c).width last) (pivot_at l.now (offset (few (S.models set.now)) c) (at (few (S.models set.now)) c).width p) (at (few (S.models set.now)) c).width store.old }
 {
     let RowSpan { start, width } = row_span(set, l, c);
     let from = l.pivot_at(start, width, last);
@@ -126,10 +126,10 @@ pub fn free_pivot<S: ChannelSet>(
     c: usize,
     p: usize,
 )
-    requires ready { Ready (few (models set.now)) counts.now l.now store.old }
-    requires channel { c < length (few (models set.now)) }
+    requires ready { Ready (few (S.models set.now)) counts.now l.now store.old }
+    requires channel { c < length (few (S.models set.now)) }
     requires pivot { p < pivots_in counts.now c }
-    ensures { store.new ≡ freed_bytes (few (models set.now)) counts.now c p store.old }
+    ensures { store.new ≡ freed_bytes (few (S.models set.now)) counts.now c p store.old }
 {
     let last = counts.pivots_in(c) - 1;
     free_row(set, store, l, counts, c, p, last);

@@ -90,7 +90,7 @@ enum Side {
 }
 
 fn side_of<A: ChannelSet>(first: &A, c: usize) -> Side
-    ensures { LiesAt (models first.now) c result }
+    ensures { LiesAt (A.models first.now) c result }
 {
     let n = first.channels();
     if c < n {

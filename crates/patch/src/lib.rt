@@ -13,7 +13,7 @@ use refusal::Refusal;
 
 /// How many channels are in use: those of the set, eight at most.
 pub fn used_channels<S: ChannelSet>(set: &S) -> usize
-    ensures value { result ≡ length (few (models set.now)) }
+    ensures value { result ≡ length (few (S.models set.now)) }
     ensures bound { result ≤ 8 }
 {
     set.channels().min(8)
@@ -21,9 +21,9 @@ pub fn used_channels<S: ChannelSet>(set: &S) -> usize
 
 /// Where the row of channel c begins in a patch.
 pub fn row_offset<S: ChannelSet>(set: &S, c: usize) -> usize
-    ensures value { result ≡ offset (few (models set.now)) c }
-    ensures past { 8 ≤ c → result ≡ patch_width (few (models set.now)) }
-    ensures all { 8 ≤ c → length (models set.now) ≤ 8 → result ≡ patch_width (models set.now) }
+    ensures value { result ≡ offset (few (S.models set.now)) c }
+    ensures past { 8 ≤ c → result ≡ patch_width (few (S.models set.now)) }
+    ensures all { 8 ≤ c → length (S.models set.now) ≤ 8 → result ≡ patch_width (S.models set.now) }
     ensures bound { result ≤ 2048 }
 {
     let mut start: usize = 0;
@@ -35,8 +35,8 @@ pub fn row_offset<S: ChannelSet>(set: &S, c: usize) -> usize
 
 /// How many bytes a patch has.
 pub fn patch_bytes<S: ChannelSet>(set: &S) -> usize
-    ensures value { result ≡ patch_width (few (models set.now)) }
-    ensures all { length (models set.now) ≤ 8 → result ≡ patch_width (models set.now) }
+    ensures value { result ≡ patch_width (few (S.models set.now)) }
+    ensures all { length (S.models set.now) ≤ 8 → result ≡ patch_width (S.models set.now) }
     ensures bound { result ≤ 2048 }
 {
     row_offset(set, 8)
@@ -44,10 +44,10 @@ pub fn patch_bytes<S: ChannelSet>(set: &S) -> usize
 
 // The distance of two patches in channel c.
 fn distance_in<S: ChannelSet>(set: &mut S, c: usize, query: &[u8], patch: &[u8]) -> u16
-    requires { Comparable (models set.old) c query.now patch.now }
-    ensures value { result ≡ distance_in (models set.old) query.now patch.now c }
-    ensures kept { models set.new ≡ models set.old }
-    ensures adds { AddsAt (asked set.old) (asked set.new) c (row (models set.old) c query.now) (row (models set.old) c patch.now) }
+    requires { Comparable (S.models set.old) c query.now patch.now }
+    ensures value { result ≡ distance_in (S.models set.old) query.now patch.now c }
+    ensures kept { S.models set.new ≡ S.models set.old }
+    ensures adds { AddsAt (S.asked set.old) (S.asked set.new) c (row (S.models set.old) c query.now) (row (S.models set.old) c patch.now) }
 {
     let start = row_offset(set, c);
     let end = start + set.width(c);
@@ -61,8 +61,8 @@ fn check_channel<S: ChannelSet>(
     query: &[u8],
     patch: &[u8],
 ) -> Result<(), Refusal>
-    ensures value { result ≡ answered (channel_refusal (models set.now) c query.now patch.now) tt }
-    ensures passes { is_ok result ≡ true → Comparable (models set.now) c query.now patch.now }
+    ensures value { result ≡ answered (channel_refusal (S.models set.now) c query.now patch.now) tt }
+    ensures passes { is_ok result ≡ true → Comparable (S.models set.now) c query.now patch.now }
 {
     let bytes = patch_bytes(set);
     if set.channels() > 8 {
@@ -84,10 +84,10 @@ pub fn channel_distance<S: ChannelSet>(
     query: &[u8],
     patch: &[u8],
 ) -> Result<u16, Refusal>
-    ensures value { result ≡ answered (channel_refusal (models set.old) c query.now patch.now) (distance_in (models set.old) query.now patch.now c) }
+    ensures value { result ≡ answered (channel_refusal (S.models set.old) c query.now patch.now) (distance_in (S.models set.old) query.now patch.now c) }
     ensures refused { is_ok result ≡ false → set.new ≡ set.old }
-    ensures kept { models set.new ≡ models set.old }
-    ensures adds { AddsAt (asked set.old) (asked set.new) c (row (models set.old) c query.now) (row (models set.old) c patch.now) }
+    ensures kept { S.models set.new ≡ S.models set.old }
+    ensures adds { AddsAt (S.asked set.old) (S.asked set.new) c (row (S.models set.old) c query.now) (row (S.models set.old) c patch.now) }
 {
     check_channel(set, c, query, patch)?;
     Ok(distance_in(set, c, query, patch))
@@ -101,12 +101,12 @@ fn weighted_in<S: ChannelSet>(
     query: &[u8],
     patch: &[u8],
 ) -> Weighted
-    requires comparable { Comparable (models set.old) c query.now patch.now }
-    requires weights { length weights.now ≡ length (models set.old) }
-    ensures value { result ≡ weighted (models set.old) weights.now query.now patch.now c }
+    requires comparable { Comparable (S.models set.old) c query.now patch.now }
+    requires weights { length weights.now ≡ length (S.models set.old) }
+    ensures value { result ≡ weighted (S.models set.old) weights.now query.now patch.now c }
     ensures small { result ≤ 16711425 }
-    ensures kept { models set.new ≡ models set.old }
-    ensures adds { AddsAt (asked set.old) (asked set.new) c (row (models set.old) c query.now) (row (models set.old) c patch.now) }
+    ensures kept { S.models set.new ≡ S.models set.old }
+    ensures adds { AddsAt (S.asked set.old) (S.asked set.new) c (row (S.models set.old) c query.now) (row (S.models set.old) c patch.now) }
 {
     weights[c] as Weighted * distance_in(set, c, query, patch) as Weighted
 }
@@ -119,10 +119,10 @@ fn aggregate_all<S: ChannelSet, A: Aggregate>(
     query: &[u8],
     patch: &[u8],
 ) -> Weighted
-    requires { AllComparable (models set.old) weights.now query.now patch.now }
-    ensures value { result ≡ A.Aggregate.meaning aggregate.now (all_weighted (models set.old) weights.now query.now patch.now) }
-    ensures kept { models set.new ≡ models set.old }
-    ensures adds { AddsRows (asked set.old) (asked set.new) (models set.old) (length (models set.old)) query.now patch.now }
+    requires { AllComparable (S.models set.old) weights.now query.now patch.now }
+    ensures value { result ≡ A.Aggregate.meaning aggregate.now (all_weighted (S.models set.old) weights.now query.now patch.now) }
+    ensures kept { S.models set.new ≡ S.models set.old }
+    ensures adds { AddsRows (S.asked set.old) (S.asked set.new) (S.models set.old) (length (S.models set.old)) query.now patch.now }
 {
     let channels = set.channels();
     let mut entries: [Weighted; 8] = [0; 8];
@@ -139,8 +139,8 @@ fn check_all<S: ChannelSet>(
     query: &[u8],
     patch: &[u8],
 ) -> Result<(), Refusal>
-    ensures value { result ≡ answered (aggregate_refusal (models set.now) weights.now query.now patch.now) tt }
-    ensures passes { is_ok result ≡ true → AllComparable (models set.now) weights.now query.now patch.now }
+    ensures value { result ≡ answered (aggregate_refusal (S.models set.now) weights.now query.now patch.now) tt }
+    ensures passes { is_ok result ≡ true → AllComparable (S.models set.now) weights.now query.now patch.now }
 {
     let bytes = patch_bytes(set);
     if set.channels() > 8 {
@@ -163,10 +163,10 @@ pub fn aggregated_distance<S: ChannelSet, A: Aggregate>(
     query: &[u8],
     patch: &[u8],
 ) -> Result<Weighted, Refusal>
-    ensures value { result ≡ answered (aggregate_refusal (models set.old) weights.now query.now patch.now) (A.Aggregate.meaning aggregate.now (all_weighted (models set.old) weights.now query.now patch.now)) }
+    ensures value { result ≡ answered (aggregate_refusal (S.models set.old) weights.now query.now patch.now) (A.Aggregate.meaning aggregate.now (all_weighted (S.models set.old) weights.now query.now patch.now)) }
     ensures refused { is_ok result ≡ false → set.new ≡ set.old }
-    ensures kept { models set.new ≡ models set.old }
-    ensures adds { AddsRows (asked set.old) (asked set.new) (models set.old) (length (models set.old)) query.now patch.now }
+    ensures kept { S.models set.new ≡ S.models set.old }
+    ensures adds { AddsRows (S.asked set.old) (S.asked set.new) (S.models set.old) (length (S.models set.old)) query.now patch.now }
 {
     check_all(set, weights, query, patch)?;
     Ok(aggregate_all(set, aggregate, weights, query, patch))

@@ -52,15 +52,15 @@ pub fn nearest<S: ChannelSet, A: Aggregate>(
     candidates: &mut [Candidate],
     uppers: &mut [Upper],
 ) -> Result<Answer, Refusal>
-    ensures answer { refused_by result ≡ search_refusal (few (models index.old.set)) index.old.counts store.now query.now.k (handed (length query.now.rows.now) (length query.now.weights.now) (length hits.old) (length candidates.old) (length uppers.old)) }
-    ensures searched { Granted result (λ a. Searched (few (models index.old.set)) index.old.counts store.now (question query.now.rows.now query.now.weights.now (A.Aggregate.meaning query.now.aggregate) query.now.k query.now.radius) budget a hits.old hits.new (asked index.old.set) (asked index.new.set)) }
+    ensures answer { refused_by result ≡ search_refusal (few (S.models index.old.set)) index.old.counts store.now query.now.k (handed (length query.now.rows.now) (length query.now.weights.now) (length hits.old) (length candidates.old) (length uppers.old)) }
+    ensures searched { Granted result (λ a. Searched (few (S.models index.old.set)) index.old.counts store.now (question query.now.rows.now query.now.weights.now (A.Aggregate.meaning query.now.aggregate) query.now.k query.now.radius) budget a hits.old hits.new (S.asked index.old.set) (S.asked index.new.set)) }
     ensures within { Granted result (λ a. (a.named ≤ query.now.k) × (a.measured ≤ budget)) }
-    ensures promised { Promised (models index.old.set) index.old.counts store.now (question query.now.rows.now query.now.weights.now (A.Aggregate.meaning query.now.aggregate) query.now.k query.now.radius) budget result hits.new (asked index.old.set) (asked index.new.set) }
+    ensures promised { Promised (S.models index.old.set) index.old.counts store.now (question query.now.rows.now query.now.weights.now (A.Aggregate.meaning query.now.aggregate) query.now.k query.now.radius) budget result hits.new (S.asked index.old.set) (S.asked index.new.set) }
     ensures counts { index.new.counts ≡ index.old.counts }
-    ensures same { models index.new.set ≡ models index.old.set }
+    ensures same { S.models index.new.set ≡ S.models index.old.set }
     ensures scratch { Granted result (λ _. (candidates.new ≡ replicate (length candidates.old) blank_candidate) × (uppers.new ≡ replicate (length uppers.old) blank_upper)) }
     ensures refused { Unserved result ((index.new.set ≡ index.old.set) × (hits.new ≡ hits.old) × (candidates.new ≡ candidates.old) × (uppers.new ≡ uppers.old)) }
-    ensures history { (cap : ℕ) (b : List ℕ) (h : List Call) → Holds (models index.old.set) index.old.counts store.now cap b h → Holds (models index.new.set) index.new.counts store.now cap b (searching ∷ h) }
+    ensures history { (cap : ℕ) (b : List ℕ) (h : List Call) → Holds (S.models index.old.set) index.old.counts store.now cap b h → Holds (S.models index.new.set) index.new.counts store.now cap b (searching ∷ h) }
 {
     let sizes = sizes_of(query.rows, query.weights, hits, candidates, uppers);
     let l = open(index, store, query.k, sizes)?;

@@ -20,12 +20,12 @@ fn ask_channel<S: ChannelSet>(
     query: &[u8],
     c: usize,
 ) -> [u16; 8]
-    requires ready { Ready (few (models set.old)) counts.now l.now store.now }
-    requires query { length query.now ≡ patch_width (few (models set.old)) }
-    requires channel { c < length (few (models set.old)) }
-    ensures near { NearIn (few (models set.old)) counts.now store.now query.now c result }
-    ensures kept { models set.new ≡ models set.old }
-    ensures asks { AddsOnly (asked set.old) (asked set.new) (NearAsks (few (models set.old)) counts.now store.now query.now) }
+    requires ready { Ready (few (S.models set.old)) counts.now l.now store.now }
+    requires query { length query.now ≡ patch_width (few (S.models set.old)) }
+    requires channel { c < length (few (S.models set.old)) }
+    ensures near { NearIn (few (S.models set.old)) counts.now store.now query.now c result }
+    ensures kept { S.models set.new ≡ S.models set.old }
+    ensures asks { AddsOnly (S.asked set.old) (S.asked set.new) (NearAsks (few (S.models set.old)) counts.now store.now query.now) }
 {
     let mut near = [0u16; 8];
     for p in 0..counts.pivots_in(c) {

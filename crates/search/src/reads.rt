@@ -11,12 +11,12 @@ use metric::channels::ChannelSet;
 
 // The query's row in channel c.
 fn query_row<'a, S: ChannelSet>(set: &S, l: &Layout, query: &'a [u8], c: usize) -> &'a [u8]
-    requires channel { c < length (few (models set.now)) }
-    requires channels { l.now.channels ≡ length (few (models set.now)) }
-    requires row { l.now.row ≡ patch_width (few (models set.now)) }
+    requires channel { c < length (few (S.models set.now)) }
+    requires channels { l.now.channels ≡ length (few (S.models set.now)) }
+    requires row { l.now.row ≡ patch_width (few (S.models set.now)) }
     requires query { length query.now ≡ l.now.row }
-    ensures is { result.now ≡ row (few (models set.now)) c query.now }
-    ensures wide { length result.now ≡ (at (models set.now) c).width }
+    ensures is { result.now ≡ row (few (S.models set.now)) c query.now }
+    ensures wide { length result.now ≡ (at (S.models set.now) c).width }
 {
     let RowSpan { start, width } = row_span(set, l, c);
     &query[start..start + width]
@@ -32,13 +32,13 @@ fn both_rows<'a, S: ChannelSet>(
     slot: usize,
     c: usize,
 ) -> (&'a [u8], &'a [u8])
-    requires ready { Ready (few (models set.now)) counts.now l.now store.now }
-    requires query { length query.now ≡ patch_width (few (models set.now)) }
-    requires channel { c < length (few (models set.now)) }
+    requires ready { Ready (few (S.models set.now)) counts.now l.now store.now }
+    requires query { length query.now ≡ patch_width (few (S.models set.now)) }
+    requires channel { c < length (few (S.models set.now)) }
     requires slot { slot < counts.now.capacity }
-    ensures asked { result.0.now ≡ row (few (models set.now)) c query.now }
-    ensures patch { result.1.now ≡ row_of_slot (few (models set.now)) l.now c slot store.now }
-    ensures wide { (length result.0.now ≡ (at (models set.now) c).width) × (length result.1.now ≡ (at (models set.now) c).width) }
+    ensures asked { result.0.now ≡ row (few (S.models set.now)) c query.now }
+    ensures patch { result.1.now ≡ row_of_slot (few (S.models set.now)) l.now c slot store.now }
+    ensures wide { (length result.0.now ≡ (at (S.models set.now) c).width) × (length result.1.now ≡ (at (S.models set.now) c).width) }
 {
     let RowSpan { start, width } = row_span(set, l, c);
     let at = l.row_at(slot) + start;
@@ -54,11 +54,11 @@ fn pivot_row<'a, S: ChannelSet>(
     c: usize,
     p: usize,
 ) -> &'a [u8]
-    requires ready { Ready (few (models set.now)) counts.now l.now store.now }
-    requires channel { c < length (few (models set.now)) }
+    requires ready { Ready (few (S.models set.now)) counts.now l.now store.now }
+    requires channel { c < length (few (S.models set.now)) }
     requires pivot { p < 8 }
-    ensures is { result.now ≡ row_of_pivot (few (models set.now)) l.now c p store.now }
-    ensures wide { length result.now ≡ (at (models set.now) c).width }
+    ensures is { result.now ≡ row_of_pivot (few (S.models set.now)) l.now c p store.now }
+    ensures wide { length result.now ≡ (at (S.models set.now) c).width }
 {
     let RowSpan { start, width } = row_span(set, l, c);
     let at = l.pivot_at(start, width, p);

@@ -29,9 +29,9 @@ fn turn<S: ChannelSet>(
     uppers: &mut [Upper],
     out: &mut String,
 ) -> Result<bool, fmt::Error>
-    ensures same { models index.new.set ≡ models index.old.set }
+    ensures same { S.models index.new.set ≡ S.models index.old.set }
     ensures format { reader.new.format ≡ reader.old.format }
-    ensures turn { IfOk result (λ more. (printed : List ℕ) × Turn (few (models index.old.set)) reader.old.format (room_of (length hits.old) (length candidates.old) (length uppers.old)) (written index.old.counts store.old) (written index.new.counts store.new) reader.old.rest.now reader.new.rest.now printed more × (string_bytes out.new ≡ string_bytes out.old ++ printed)) }
+    ensures turn { IfOk result (λ more. (printed : List ℕ) × Turn (few (S.models index.old.set)) reader.old.format (room_of (length hits.old) (length candidates.old) (length uppers.old)) (written index.old.counts store.old) (written index.new.counts store.new) reader.old.rest.now reader.new.rest.now printed more × (string_bytes out.new ≡ string_bytes out.old ++ printed)) }
 {
     let next = match reader.next() {
         Ok(next) => next,
@@ -65,9 +65,9 @@ pub fn run<S: ChannelSet>(
     uppers: &mut [Upper],
     out: &mut String,
 ) -> fmt::Result
-    ensures same { models index.new.set ≡ models index.old.set }
-    ensures session { OnOk result ((printed : List ℕ) × Session (few (models index.old.set)) format (room_of (length hits.old) (length candidates.old) (length uppers.old)) (written index.old.counts store.old) input.now printed (written index.new.counts store.new) × (string_bytes out.new ≡ string_bytes out.old ++ printed)) }
-    ensures promised { OnOk result (Promised (models index.old.set) format (room_of (length hits.old) (length candidates.old) (length uppers.old)) (written index.old.counts store.old) (written index.new.counts store.new) input.now (string_bytes out.old) (string_bytes out.new)) }
+    ensures same { S.models index.new.set ≡ S.models index.old.set }
+    ensures session { OnOk result ((printed : List ℕ) × Session (few (S.models index.old.set)) format (room_of (length hits.old) (length candidates.old) (length uppers.old)) (written index.old.counts store.old) input.now printed (written index.new.counts store.new) × (string_bytes out.new ≡ string_bytes out.old ++ printed)) }
+    ensures promised { OnOk result (Promised (S.models index.old.set) format (room_of (length hits.old) (length candidates.old) (length uppers.old)) (written index.old.counts store.old) (written index.new.counts store.new) input.now (string_bytes out.old) (string_bytes out.new)) }
 {
     let mut reader = Reader::new(format, input);
     let mut more = true;

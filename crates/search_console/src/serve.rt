@@ -50,10 +50,10 @@ fn find<'a, S: ChannelSet>(
     candidates: &mut [Candidate],
     uppers: &mut [Upper],
 ) -> Result<Answer, Refusal>
-    ensures replies { Replies (few (models index.old.set)) (room_of (length hits.old) (length candidates.old) (length uppers.old)) (written index.old.counts store.now) aggregate weights.now k radius budget rows.now result hits.old hits.new }
+    ensures replies { Replies (few (S.models index.old.set)) (room_of (length hits.old) (length candidates.old) (length uppers.old)) (written index.old.counts store.now) aggregate weights.now k radius budget rows.now result hits.old hits.new }
     ensures within { Granted result (λ a. a.named ≤ length hits.new) }
     ensures counts { index.new.counts ≡ index.old.counts }
-    ensures same { models index.new.set ≡ models index.old.set }
+    ensures same { S.models index.new.set ≡ S.models index.old.set }
 {
     let query = Query {
         rows,

@@ -11,7 +11,7 @@ loop-more-init g c = (refl, refl, ([], begun _ _ _ _ _ c.new-reader.ensures.1, s
 pub loop-more-preserved : goal.loop-more-preserved
 loop-more-preserved g c =
     let i = c.loop-more.invariant in
-    let t = c.in-ok-more.ensures.turn in (
+    let t = c.in_ok-more.ensures.turn in (
       c.turn.ensures.same ∙ i.0,
       c.turn.ensures.format ∙ i.1,
       (
@@ -22,14 +22,14 @@ loop-more-preserved g c =
     )
 
 pub loop-more-smaller : goal.loop-more-smaller
-loop-more-smaller g c = shorter _ _ _ _ _ _ _ _ _ c.loop-more-test.true c.in-ok-more.ensures.turn.1
+loop-more-smaller g c = shorter _ _ _ _ _ _ _ _ _ c.loop-more-test.true c.in_ok-more.ensures.turn.1
 
 pub returns : goal.returns
 returns g c =
     let i = c.loop-more.invariant in
     record { same = i.0; session = (i.2.0, come _ _ _ _ _ _ _ _ _ c.loop-more-test.false c.new-reader.ensures.0 i.2.1, i.2.2) }
 
-pub returns-in-err-more : goal.returns-in-err-more
-returns-in-err-more g c =
+pub returns-in_err-more : goal.returns-in_err-more
+returns-in_err-more g c =
     let p = err_from_is_err_and c.from-residual.result c.from-residual.ensures.1 in
     record { same = c.turn.ensures.same ∙ c.loop-more.invariant.0; session = rw p.1 tt }

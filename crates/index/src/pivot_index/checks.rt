@@ -10,7 +10,7 @@ use refusal::Refusal;
 impl<S: ChannelSet> PivotIndex<S> {
     /// The layout of the store, which has to be long enough for it. Refused: 12.
     pub fn layout_in(&self, store: &[u8]) -> Result<Layout, Refusal>
-        ensures { Opened (few (models self.now.set)) self.now.counts store.now result }
+        ensures { Opened (few (S.models self.now.set)) self.now.counts store.now result }
     {
         let l = layout_of(&self.set, self.counts.capacity);
         if store.len() < l.size {

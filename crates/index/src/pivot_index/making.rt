@@ -14,9 +14,9 @@ use refusal::Refusal;
 impl<S: ChannelSet + Drop> PivotIndex<S> {
     /// An index of no patches over a store, whose stated size is zeroed. Refused, in this order: 13, 12.
     pub fn new(set: S, capacity: u16, store: &mut [u8]) -> Result<PivotIndex<S>, Refusal>
-        ensures answer { elim result [ Ok x ↦ (new_refusal (models set) capacity store.old ≡ None) × (x.set ≡ set) × (x.counts ≡ no_counts capacity) | Err e ↦ new_refusal (models set) capacity store.old ≡ Some e ] }
-        ensures bytes { store.new ≡ new_bytes (models set) capacity store.old }
-        ensures history { elim result [ Ok x ↦ Holds (models x.set) x.counts store.new capacity store.old [] | Err e ↦ Unit {0} ] }
+        ensures answer { elim result [ Ok x ↦ (new_refusal (S.models set) capacity store.old ≡ None) × (x.set ≡ set) × (x.counts ≡ no_counts capacity) | Err e ↦ new_refusal (S.models set) capacity store.old ≡ Some e ] }
+        ensures bytes { store.new ≡ new_bytes (S.models set) capacity store.old }
+        ensures history { elim result [ Ok x ↦ Holds (S.models x.set) x.counts store.new capacity store.old [] | Err e ↦ Unit {0} ] }
     {
         if set.channels() > 8 {
             return Err(Refusal::TooManyChannels);

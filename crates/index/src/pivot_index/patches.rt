@@ -16,7 +16,7 @@ use refusal::Refusal;
 impl<S: ChannelSet> PivotIndex<S> {
     // The first slot that has an accession number, as far as the bytes found say.
     fn slot_of(&self, store: &[u8], accession: u16) -> Option<u16>
-        ensures { result ≡ find_slot (few (models self.now.set)) self.now.counts store.now accession }
+        ensures { result ≡ find_slot (few (S.models self.now.set)) self.now.counts store.now accession }
     {
         match self.layout_in(store) {
             Ok(_) => first_slot(store, self.counts.held, accession),
@@ -29,9 +29,9 @@ impl<S: ChannelSet> PivotIndex<S> {
     /// Where new and a history of calls have led to this index and this store, the store's bytes and the counts are exactly the image of
     /// what the history holds, and the slot is the patch's place among the patches held.
     pub fn find(&self, store: &[u8], accession: u16) -> Option<u16>
-        ensures value { result ≡ find_slot (few (models self.now.set)) self.now.counts store.now accession }
-        ensures shows { ShowsHistory (models self.now.set) self.now.counts store.now }
-        ensures held { (cap : ℕ) (b : List ℕ) (h : List Call) → Holds (models self.now.set) self.now.counts store.now cap b h → result ≡ place accession (held (models self.now.set) cap h) }
+        ensures value { result ≡ find_slot (few (S.models self.now.set)) self.now.counts store.now accession }
+        ensures shows { ShowsHistory (S.models self.now.set) self.now.counts store.now }
+        ensures held { (cap : ℕ) (b : List ℕ) (h : List Call) → Holds (S.models self.now.set) self.now.counts store.now cap b h → result ≡ place accession (held (S.models self.now.set) cap h) }
     {
         self.slot_of(store, accession)
     }
@@ -39,36 +39,36 @@ impl<S: ChannelSet> PivotIndex<S> {
     /// Stores a patch in the next slot: its accession number, its rows, and their distances to every pivot. Refused, in
     /// this order: 12, 1, 2, 3.
     pub fn insert(&mut self, store: &mut [u8], accession: u16, rows: &[u8]) -> Result<(), Refusal>
-        ensures answer { result ≡ answered (insert_refusal (few (models self.old.set)) self.old.counts store.old accession rows.now) tt }
-        ensures counts { self.new.counts ≡ insert_counts (few (models self.old.set)) self.old.counts store.old accession rows.now }
-        ensures bytes { store.new ≡ insert_bytes (few (models self.old.set)) self.old.counts store.old accession rows.now }
-        ensures same { models self.new.set ≡ models self.old.set }
+        ensures answer { result ≡ answered (insert_refusal (few (S.models self.old.set)) self.old.counts store.old accession rows.now) tt }
+        ensures counts { self.new.counts ≡ insert_counts (few (S.models self.old.set)) self.old.counts store.old accession rows.now }
+        ensures bytes { store.new ≡ insert_bytes (few (S.models self.old.set)) self.old.counts store.old accession rows.now }
+        ensures same { S.models self.new.set ≡ S.models self.old.set }
         ensures refused { is_ok result ≡ false → self.new.set ≡ self.old.set }
-        ensures asks { AddsOnly (asked self.old.set) (asked self.new.set) (InsertAsks (few (models self.old.set)) self.old.counts store.old rows.now) }
-        ensures history { (cap : ℕ) (b : List ℕ) (h : List Call) → Holds (models self.old.set) self.old.counts store.old cap b h → Holds (models self.new.set) self.new.counts store.new cap b (inserting accession rows.now ∷ h) }
+        ensures asks { AddsOnly (S.asked self.old.set) (S.asked self.new.set) (InsertAsks (few (S.models self.old.set)) self.old.counts store.old rows.now) }
+        ensures history { (cap : ℕ) (b : List ℕ) (h : List Call) → Holds (S.models self.old.set) self.old.counts store.old cap b h → Holds (S.models self.new.set) self.new.counts store.new cap b (inserting accession rows.now ∷ h) }
     {
         self.try_insert(store, accession, rows)
     }
 
     /// Takes out the patch of an accession number; the patch of the last slot moves into its slot. Refused, in this order: 12, 4.
     pub fn remove(&mut self, store: &mut [u8], accession: u16) -> Result<(), Refusal>
-        ensures answer { result ≡ answered (remove_refusal (few (models self.old.set)) self.old.counts store.old accession) tt }
-        ensures counts { self.new.counts ≡ remove_counts (few (models self.old.set)) self.old.counts store.old accession }
-        ensures bytes { store.new ≡ remove_bytes (few (models self.old.set)) self.old.counts store.old accession }
+        ensures answer { result ≡ answered (remove_refusal (few (S.models self.old.set)) self.old.counts store.old accession) tt }
+        ensures counts { self.new.counts ≡ remove_counts (few (S.models self.old.set)) self.old.counts store.old accession }
+        ensures bytes { store.new ≡ remove_bytes (few (S.models self.old.set)) self.old.counts store.old accession }
         ensures same { self.new.set ≡ self.old.set }
-        ensures history { (cap : ℕ) (b : List ℕ) (h : List Call) → Holds (models self.old.set) self.old.counts store.old cap b h → Holds (models self.new.set) self.new.counts store.new cap b (removing accession ∷ h) }
+        ensures history { (cap : ℕ) (b : List ℕ) (h : List Call) → Holds (S.models self.old.set) self.old.counts store.old cap b h → Holds (S.models self.new.set) self.new.counts store.new cap b (removing accession ∷ h) }
     {
         self.try_remove(store, accession)
     }
 
     // Insert, by its rule.
     fn try_insert(&mut self, store: &mut [u8], accession: u16, rows: &[u8]) -> Result<(), Refusal>
-        ensures answer { result ≡ answered (insert_refusal (few (models self.old.set)) self.old.counts store.old accession rows.now) tt }
-        ensures counts { self.new.counts ≡ insert_counts (few (models self.old.set)) self.old.counts store.old accession rows.now }
-        ensures bytes { store.new ≡ insert_bytes (few (models self.old.set)) self.old.counts store.old accession rows.now }
-        ensures same { models self.new.set ≡ models self.old.set }
+        ensures answer { result ≡ answered (insert_refusal (few (S.models self.old.set)) self.old.counts store.old accession rows.now) tt }
+        ensures counts { self.new.counts ≡ insert_counts (few (S.models self.old.set)) self.old.counts store.old accession rows.now }
+        ensures bytes { store.new ≡ insert_bytes (few (S.models self.old.set)) self.old.counts store.old accession rows.now }
+        ensures same { S.models self.new.set ≡ S.models self.old.set }
         ensures refused { is_ok result ≡ false → self.new.set ≡ self.old.set }
-        ensures asks { AddsOnly (asked self.old.set) (asked self.new.set) (InsertAsks (few (models self.old.set)) self.old.counts store.old rows.now) }
+        ensures asks { AddsOnly (S.asked self.old.set) (S.asked self.new.set) (InsertAsks (few (S.models self.old.set)) self.old.counts store.old rows.now) }
     {
         let l = self.layout_in(store)?;
         if rows.len() != l.row {
@@ -88,9 +88,9 @@ impl<S: ChannelSet> PivotIndex<S> {
 
     // Remove, by its rule.
     fn try_remove(&mut self, store: &mut [u8], accession: u16) -> Result<(), Refusal>
-        ensures answer { result ≡ answered (remove_refusal (few (models self.old.set)) self.old.counts store.old accession) tt }
-        ensures counts { self.new.counts ≡ remove_counts (few (models self.old.set)) self.old.counts store.old accession }
-        ensures bytes { store.new ≡ remove_bytes (few (models self.old.set)) self.old.counts store.old accession }
+        ensures answer { result ≡ answered (remove_refusal (few (S.models self.old.set)) self.old.counts store.old accession) tt }
+        ensures counts { self.new.counts ≡ remove_counts (few (S.models self.old.set)) self.old.counts store.old accession }
+        ensures bytes { store.new ≡ remove_bytes (few (S.models self.old.set)) self.old.counts store.old accession }
         ensures same { self.new.set ≡ self.old.set }
     {
         let l = self.layout_in(store)?;

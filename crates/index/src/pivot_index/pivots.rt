@@ -23,24 +23,24 @@ impl<S: ChannelSet> PivotIndex<S> {
         channel: u8,
         accession: u16,
     ) -> Result<(), Refusal>
-        ensures answer { result ≡ answered (add_refusal (few (models self.old.set)) self.old.counts store.old channel accession) tt }
-        ensures counts { self.new.counts ≡ add_counts (few (models self.old.set)) self.old.counts store.old channel accession }
-        ensures bytes { store.new ≡ add_bytes (few (models self.old.set)) self.old.counts store.old channel accession }
-        ensures same { models self.new.set ≡ models self.old.set }
+        ensures answer { result ≡ answered (add_refusal (few (S.models self.old.set)) self.old.counts store.old channel accession) tt }
+        ensures counts { self.new.counts ≡ add_counts (few (S.models self.old.set)) self.old.counts store.old channel accession }
+        ensures bytes { store.new ≡ add_bytes (few (S.models self.old.set)) self.old.counts store.old channel accession }
+        ensures same { S.models self.new.set ≡ S.models self.old.set }
         ensures refused { is_ok result ≡ false → self.new.set ≡ self.old.set }
-        ensures asks { AddsOnly (asked self.old.set) (asked self.new.set) (PivotAsks (few (models self.old.set)) self.old.counts store.old channel (unwrap_or (first_slot self.old.counts store.old accession) 0)) }
-        ensures history { (cap : ℕ) (b : List ℕ) (h : List Call) → Holds (models self.old.set) self.old.counts store.old cap b h → Holds (models self.new.set) self.new.counts store.new cap b (adding channel accession ∷ h) }
+        ensures asks { AddsOnly (S.asked self.old.set) (S.asked self.new.set) (PivotAsks (few (S.models self.old.set)) self.old.counts store.old channel (unwrap_or (first_slot self.old.counts store.old accession) 0)) }
+        ensures history { (cap : ℕ) (b : List ℕ) (h : List Call) → Holds (S.models self.old.set) self.old.counts store.old cap b h → Holds (S.models self.new.set) self.new.counts store.new cap b (adding channel accession ∷ h) }
     {
         self.try_add_pivot(store, channel, accession)
     }
 
     /// Takes a pivot from a channel; the last pivot of the channel takes its number. Refused, in this order: 12, 5, 7.
     pub fn remove_pivot(&mut self, store: &mut [u8], channel: u8, pivot: u8) -> Result<(), Refusal>
-        ensures answer { result ≡ answered (free_refusal (few (models self.old.set)) self.old.counts store.old channel pivot) tt }
-        ensures counts { self.new.counts ≡ free_counts (few (models self.old.set)) self.old.counts store.old channel pivot }
-        ensures bytes { store.new ≡ free_bytes (few (models self.old.set)) self.old.counts store.old channel pivot }
+        ensures answer { result ≡ answered (free_refusal (few (S.models self.old.set)) self.old.counts store.old channel pivot) tt }
+        ensures counts { self.new.counts ≡ free_counts (few (S.models self.old.set)) self.old.counts store.old channel pivot }
+        ensures bytes { store.new ≡ free_bytes (few (S.models self.old.set)) self.old.counts store.old channel pivot }
         ensures same { self.new.set ≡ self.old.set }
-        ensures history { (cap : ℕ) (b : List ℕ) (h : List Call) → Holds (models self.old.set) self.old.counts store.old cap b h → Holds (models self.new.set) self.new.counts store.new cap b (freeing channel pivot ∷ h) }
+        ensures history { (cap : ℕ) (b : List ℕ) (h : List Call) → Holds (S.models self.old.set) self.old.counts store.old cap b h → Holds (S.models self.new.set) self.new.counts store.new cap b (freeing channel pivot ∷ h) }
     {
         self.try_remove_pivot(store, channel, pivot)
     }
@@ -52,12 +52,12 @@ impl<S: ChannelSet> PivotIndex<S> {
         channel: u8,
         accession: u16,
     ) -> Result<(), Refusal>
-        ensures answer { result ≡ answered (add_refusal (few (models self.old.set)) self.old.counts store.old channel accession) tt }
-        ensures counts { self.new.counts ≡ add_counts (few (models self.old.set)) self.old.counts store.old channel accession }
-        ensures bytes { store.new ≡ add_bytes (few (models self.old.set)) self.old.counts store.old channel accession }
-        ensures same { models self.new.set ≡ models self.old.set }
+        ensures answer { result ≡ answered (add_refusal (few (S.models self.old.set)) self.old.counts store.old channel accession) tt }
+        ensures counts { self.new.counts ≡ add_counts (few (S.models self.old.set)) self.old.counts store.old channel accession }
+        ensures bytes { store.new ≡ add_bytes (few (S.models self.old.set)) self.old.counts store.old channel accession }
+        ensures same { S.models self.new.set ≡ S.models self.old.set }
         ensures refused { is_ok result ≡ false → self.new.set ≡ self.old.set }
-        ensures asks { AddsOnly (asked self.old.set) (asked self.new.set) (PivotAsks (few (models self.old.set)) self.old.counts store.old channel (unwrap_or (first_slot self.old.counts store.old accession) 0)) }
+        ensures asks { AddsOnly (S.asked self.old.set) (S.asked self.new.set) (PivotAsks (few (S.models self.old.set)) self.old.counts store.old channel (unwrap_or (first_slot self.old.counts store.old accession) 0)) }
     {
         let l = self.layout_in(store)?;
         let c = channel as usize;
@@ -74,9 +74,9 @@ impl<S: ChannelSet> PivotIndex<S> {
 
     // Remove pivot, by its rule.
     fn try_remove_pivot(&mut self, store: &mut [u8], channel: u8, pivot: u8) -> Result<(), Refusal>
-        ensures answer { result ≡ answered (free_refusal (few (models self.old.set)) self.old.counts store.old channel pivot) tt }
-        ensures counts { self.new.counts ≡ free_counts (few (models self.old.set)) self.old.counts store.old channel pivot }
-        ensures bytes { store.new ≡ free_bytes (few (models self.old.set)) self.old.counts store.old channel pivot }
+        ensures answer { result ≡ answered (free_refusal (few (S.models self.old.set)) self.old.counts store.old channel pivot) tt }
+        ensures counts { self.new.counts ≡ free_counts (few (S.models self.old.set)) self.old.counts store.old channel pivot }
+        ensures bytes { store.new ≡ free_bytes (few (S.models self.old.set)) self.old.counts store.old channel pivot }
         ensures same { self.new.set ≡ self.old.set }
     {
         let l = self.layout_in(store)?;

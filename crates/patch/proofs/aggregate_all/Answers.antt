@@ -6,8 +6,8 @@ use Rattle.patch.specs.Refused.{Comparable}
 use Rattle.patch.proofs.Entries.{table_more, table_small, table_entries, table_all, rows_more}
 use Rattle.patch.proofs.aggregate_all.Goals as goal
 
-pub weighted-in-requires : goal.weighted-in-requires
-weighted-in-requires g c =
+pub weighted_in-requires : goal.weighted_in-requires
+weighted_in-requires g c =
     let e = sym c.loop-c.invariant.0 in
     record {
       comparable = subst (λ (ms : List Model). Comparable ms c.loop-c.c c.args.query.now c.args.patch.now) e (record { few = c.requires.few; channel = omega arith; query = c.requires.query; patch = c.requires.patch });
@@ -23,12 +23,12 @@ loop-c-preserved g c =
     let i = c.loop-c.c in
     let e = c.loop-c.invariant.0 in
     let lt : i < length c.loop-c.entries = omega (arith, c.loop-c.invariant.1) in
-    let v = c.weighted-in.ensures.value ∙ ap (λ (ls : List Model). weighted ls c.args.weights.now q o i) e in (
-      c.weighted-in.ensures.kept ∙ e,
+    let v = c.weighted_in.ensures.value ∙ ap (λ (ls : List Model). weighted ls c.args.weights.now q o i) e in (
+      c.weighted_in.ensures.kept ∙ e,
       length-set _ _ _ ∙ c.loop-c.invariant.1,
-      table_more (weighted ms c.args.weights.now q o) c.loop-c.entries i c.weighted-in.result lt v c.loop-c.invariant.2,
-      table_small 16711425 c.loop-c.entries i c.weighted-in.result lt c.weighted-in.ensures.small c.loop-c.invariant.3,
-      rows_more _ _ _ ms i q o c.loop-c.invariant.4 (subst (λ (ls : List Model). AddsAt (s.asked c.loop-c.set) (s.asked c.weighted-in.new.set) i (row ls i q) (row ls i o)) e c.weighted-in.ensures.adds),
+      table_more (weighted ms c.args.weights.now q o) c.loop-c.entries i c.weighted_in.result lt v c.loop-c.invariant.2,
+      table_small 16711425 c.loop-c.entries i c.weighted_in.result lt c.weighted_in.ensures.small c.loop-c.invariant.3,
+      rows_more _ _ _ ms i q o c.loop-c.invariant.4 (subst (λ (ls : List Model). AddsAt (s.asked c.loop-c.set) (s.asked c.weighted_in.new.set) i (row ls i q) (row ls i o)) e c.weighted_in.ensures.adds),
     )
 
 pub combine-requires : goal.combine-requires

@@ -4,16 +4,16 @@ use Rattle.patch.specs.Patches.{row}
 use Rattle.patch.proofs.Rows.{cut_is_row, cut_ends, dist_at}
 use Rattle.patch.proofs.distance_in.Goals as goal
 
-pub slice-bounds-distance-end : goal.slice-bounds-distance-end
-slice-bounds-distance-end g c =
-    let e = cut_ends (g.S.ChannelSet.models c.args.set.now) c.args.c _ _ c.requires.few c.requires.channel c.row-offset-start.ensures.value c.width.ensures in
-    let f : c.row-offset-start.result + c.width.result ≤ length c.args.query.now = omega arith in
+pub slice_bounds-distance-end : goal.slice_bounds-distance-end
+slice_bounds-distance-end g c =
+    let e = cut_ends (g.S.ChannelSet.models c.args.set.now) c.args.c _ _ c.requires.few c.requires.channel c.row_offset-start.ensures.value c.width.ensures in
+    let f : c.row_offset-start.result + c.width.result ≤ length c.args.query.now = omega arith in
     search rules
 
-pub slice-bounds-distance-end-2 : goal.slice-bounds-distance-end-2
-slice-bounds-distance-end-2 g c =
-    let e = cut_ends (g.S.ChannelSet.models c.args.set.now) c.args.c _ _ c.requires.few c.requires.channel c.row-offset-start.ensures.value c.width.ensures in
-    let f : c.row-offset-start.result + c.width.result ≤ length c.args.patch.now = omega arith in
+pub slice_bounds-distance-end-2 : goal.slice_bounds-distance-end-2
+slice_bounds-distance-end-2 g c =
+    let e = cut_ends (g.S.ChannelSet.models c.args.set.now) c.args.c _ _ c.requires.few c.requires.channel c.row_offset-start.ensures.value c.width.ensures in
+    let f : c.row_offset-start.result + c.width.result ≤ length c.args.patch.now = omega arith in
     search rules
 
 pub returns : goal.returns
@@ -22,8 +22,8 @@ returns g c =
     let q = c.args.query.now in
     let o = c.args.patch.now in
     let i = c.args.c in
-    let a = cut_is_row ms i _ _ q c.requires.few c.row-offset-start.ensures.value c.width.ensures in
-    let b = cut_is_row ms i _ _ o c.requires.few c.row-offset-start.ensures.value c.width.ensures in
+    let a = cut_is_row ms i _ _ q c.requires.few c.row_offset-start.ensures.value c.width.ensures in
+    let b = cut_is_row ms i _ _ o c.requires.few c.row_offset-start.ensures.value c.width.ensures in
     let v = dist_at (at ms i) c.distance.result _ _ (row ms i q) (row ms i o) a b c.distance.ensures.value in
     record {
       value = v;

@@ -7,8 +7,8 @@ use Rattle.patch.proofs.row_offset.Goals as goal
 next : (g : given.Over) (c : goal.After-width-start g) → Turn (g.S.ChannelSet.models c.args.set.now) c.loop-i.i c.loop-i.start c.width-start.result
 next g c = turn _ _ _ _ (g.met.S.ChannelSet.lawful c.args.set.now) (omega arith) c.loop-i.invariant.1 c.loop-i.invariant.0 c.width-start.ensures
 
-pub overflow-add-start : goal.overflow-add-start
-overflow-add-start g c = omega (arith, (next g c).low, (next g c).small)
+pub overflow_add-start : goal.overflow_add-start
+overflow_add-start g c = omega (arith, (next g c).low, (next g c).small)
 
 pub loop-i-preserved : goal.loop-i-preserved
 loop-i-preserved g c = ((next g c).next, (next g c).low)

@@ -6,8 +6,8 @@ pub returns : goal.returns
 returns g c =
     let w = get_or c.args.weights.now c.args.c 0 in
     record {
-      value = ap (λ (d : ℕ). w * d) c.distance-in.ensures.value;
-      small = mul-le w c.distance-in.result 255 65535 (omega (arith, c.type-inv.weights c.args.c)) (omega (arith, c.distance-in.type-inv));
-      kept = c.distance-in.ensures.kept;
-      adds = c.distance-in.ensures.adds;
+      value = ap (λ (d : ℕ). w * d) c.distance_in.ensures.value;
+      small = mul-le w c.distance_in.result 255 65535 (omega (arith, c.type_inv.weights c.args.c)) (omega (arith, c.distance_in.type_inv));
+      kept = c.distance_in.ensures.kept;
+      adds = c.distance_in.ensures.adds;
     }

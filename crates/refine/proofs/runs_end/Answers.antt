@@ -5,4 +5,4 @@ use Rattle.refine.proofs.Families.{runs_end, steps_end}
 use Rattle.refine.proofs.runs_end.Goals as goal
 
 pub returns : goal.returns
-returns c = record { steps = c.steps-enough.ensures; outcome = runs_end Patch ℕ; ends = steps_end Patch ℕ }
+returns c = record { steps = c.steps_enough.ensures; outcome = runs_end Patch ℕ; ends = steps_end Patch ℕ }

@@ -15,7 +15,7 @@ returns g c =
     let a = c.args in
     let s = c.serve in
     let e = s.ensures in
-    let o = c.in-ok-l.ensures in
+    let o = c.in_ok-l.ensures in
     let x = a.index.now in
     let y = a.query.now in
     let ms = S.models x.set in
@@ -23,7 +23,7 @@ returns g c =
     let f = g.A.Aggregate.meaning y.aggregate in
     let q = question y.rows.now y.weights.now f y.k y.radius in
     let sizes = handed (length y.rows.now) (length y.weights.now) (length a.hits.now) (length a.candidates.now) (length a.uppers.now) in
-    let none = ap (λ (v : Sizes). search_refusal (few ms) x.counts b y.k v) (sym c.sizes-of-sizes.ensures) ∙ o.0 in
+    let none = ap (λ (v : Sizes). search_refusal (few ms) x.counts b y.k v) (sym c.sizes_of-sizes.ensures) ∙ o.0 in
     record {
       answer = sym none;
       searched = e.searched;

@@ -13,7 +13,7 @@ pub loop-more-preserved : goal.loop-more-preserved
 loop-more-preserved g c =
     let i = c.loop-more.invariant in
     let k = c.loop-more.auto in
-    let t = c.in-ok-more.ensures.turn in (
+    let t = c.in_ok-more.ensures.turn in (
       c.turn.ensures.same ∙ i.0,
       c.turn.ensures.format ∙ i.1,
       (
@@ -24,7 +24,7 @@ loop-more-preserved g c =
     )
 
 pub loop-more-smaller : goal.loop-more-smaller
-loop-more-smaller g c = shorter _ _ _ _ _ _ _ _ _ _ c.loop-more-test.true c.in-ok-more.ensures.turn.1
+loop-more-smaller g c = shorter _ _ _ _ _ _ _ _ _ _ c.loop-more-test.true c.in_ok-more.ensures.turn.1
 
 pub returns : goal.returns
 returns g c =
@@ -41,10 +41,10 @@ returns g c =
       session = (i.2.0, s, i.2.2);
       promised =
           session_promised ms a.format room w v a.input.now (string_bytes a.out.now) (string_bytes c.loop-more.out) i.2.0
-          (g.met.S.ChannelSet.some x.set) (g.met.S.ChannelSet.lawful x.set) (λ k. omega (arith, c.type-inv.input k)) s i.2.2;
+          (g.met.S.ChannelSet.some x.set) (g.met.S.ChannelSet.lawful x.set) (λ k. omega (arith, c.type_inv.input k)) s i.2.2;
     }
 
-pub returns-in-err-more : goal.returns-in-err-more
-returns-in-err-more g c =
+pub returns-in_err-more : goal.returns-in_err-more
+returns-in_err-more g c =
     let p = err_from_is_err_and c.from-residual.result c.from-residual.ensures.1 in
     record { same = c.turn.ensures.same ∙ c.loop-more.invariant.0; session = rw p.1 tt; promised = rw p.1 tt }

@@ -8,13 +8,13 @@ pub returns : goal.returns
 returns c =
     let f = c.args.self.now.format in
     let b = c.args.self.now.rest.now in
-    let n = subst (λ o. InFront f b (Ok o)) c.in-Some.is c.in-ok-command.ensures in
+    let n = subst (λ o. InFront f b (Ok o)) c.in-Some.is c.in_ok-command.ensures in
     record { next = n; exact = exact f b c.in-Some.rest.now (Ok (Some c.in-Some.command)) n; format = refl }
 
-pub returns-in-err-command : goal.returns-in-err-command
-returns-in-err-command c =
+pub returns-in_err-command : goal.returns-in_err-command
+returns-in_err-command c =
     let p = err_from_is_err_and c.from-residual.result c.from-residual.ensures.1 in
     let f = c.args.self.now.format in
     let b = c.args.self.now.rest.now in
-    let n = c.in-err-command.ensures in
-    rw (p.1, p.2) (record { next = (n, refl); exact = exact f b b (Err c.in-err-command.field-0.0) (n, refl); format = refl })
+    let n = c.in_err-command.ensures in
+    rw (p.1, p.2) (record { next = (n, refl); exact = exact f b b (Err c.in_err-command.field-0.0) (n, refl); format = refl })

@@ -15,7 +15,7 @@ loop-slot-preserved g c =
     let f = slot_family (g.S.Source.tables c.args.source.now c.args.meter.now) c.args.weights.now (g.A.Aggregate.meaning c.args.aggregate.now) in
     let l = c.loop-slot in
     let e = c.extremes-lower in
-    let o = c.offer-one-len in (
+    let o = c.offer_one-len in (
       bounds_more f l.slot l.candidates _ (omega arith) e.ensures.lower l.invariant.0,
       subst (λ (p : List ℕ). KeptWhere c.args.k o.result p c.args.uppers.now o.new.uppers) (sym (map-range_with_len_more f.upper 0 l.slot l.slot (omega arith)))
           (keeps_more c.args.k l.len o.result (f.upper l.slot) (map f.upper (range_with_len 0 l.slot)) c.args.uppers.now l.uppers o.new.uppers (omega arith) (λ h. subst (λ (x : ℕ). Offered c.args.k l.len x l.uppers o.result o.new.uppers) e.ensures.upper (o.ensures.room h)) o.ensures.none l.invariant.1),

@@ -15,13 +15,13 @@ returns-then-at-k g c =
       ready = c.requires.ready;
     }
 
-pub returns-in-default : goal.returns-in-default
-returns-in-default g c =
+pub returns-in_default : goal.returns-in_default
+returns-in_default g c =
     let t = g.S.Source.tables c.args.source.now c.args.meter.now in
     let a = c.args in
     let q = asking a.weights.now (g.A.Aggregate.meaning a.aggregate.now) a.k a.radius a.budget in
     record {
-      steps = λ old s st. record { move = is_empty t q old a.candidates.now a.hits.now a.progress.now s st c.in-default.ensures; hits = refl; progress = refl; asks = λ k x y h. h };
+      steps = λ old s st. record { move = is_empty t q old a.candidates.now a.hits.now a.progress.now s st c.in_default.ensures; hits = refl; progress = refl; asks = λ k x y h. h };
       kept = refl;
       same = refl;
       ready = c.requires.ready;

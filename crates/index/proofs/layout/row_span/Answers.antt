@@ -11,7 +11,7 @@ returns g c =
     record {
       known = omega (arith, length-take 8 ms);
       channel = omega arith;
-      begins = c.row-offset.ensures.value;
+      begins = c.row_offset.ensures.value;
       wide = w;
       same = c.width.ensures;
       inside = omega (arith, w, row_ends (few ms) c.args.c c.requires.channel);

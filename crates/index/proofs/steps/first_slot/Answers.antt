@@ -4,12 +4,12 @@ use Rattle.index.proofs.steps.first_slot.Goals as goal
 
 pub loop-i-preserved : goal.loop-i-preserved
 loop-i-preserved c =
-    first_next c.args.store.now c.args.accession c.args.held c.loop-i.i c.loop-i-test.true (sym c.has-number.ensures ∙ c.if-has-number.false)
+    first_next c.args.store.now c.args.accession c.args.held c.loop-i.i c.loop-i-test.true (sym c.has_number.ensures ∙ c.if-has_number.false)
     ∙ c.loop-i.invariant
 
-pub returns-then-has-number : goal.returns-then-has-number
-returns-then-has-number c = record {
-  is = first_here c.args.store.now c.args.accession c.args.held c.loop-i.i c.loop-i-test.true (sym c.has-number.ensures ∙ c.if-has-number.true) ∙ c.loop-i.invariant;
+pub returns-then-has_number : goal.returns-then-has_number
+returns-then-has_number c = record {
+  is = first_here c.args.store.now c.args.accession c.args.held c.loop-i.i c.loop-i-test.true (sym c.has_number.ensures ∙ c.if-has_number.true) ∙ c.loop-i.invariant;
   below = c.loop-i-test.true;
 }
 

@@ -7,8 +7,8 @@ use Rattle.index.proofs.Eaches.{each_more}
 use Rattle.index.proofs.Stores.{ready_again, insert_asks_below, adds_more, adds_among}
 use Rattle.index.proofs.steps.store_patch.Goals as goal
 
-pub store-channel-requires : goal.store-channel-requires
-store-channel-requires g c =
+pub store_channel-requires : goal.store_channel-requires
+store_channel-requires g c =
     let same = c.loop-c.invariant.0 in
     let n : c.args.l.now.channels ≡ length (few (g.S.ChannelSet.models c.args.set.now)) = c.requires.ready.channels in
     let h : c.loop-c.c < length (few (g.S.ChannelSet.models c.args.set.now)) = omega arith in

@@ -17,17 +17,17 @@ returns g c =
     let k = c.args.counts.now in
     let l = c.args.l.now in
     let b = c.args.store.now in
-    let b₂ = c.put-patch.new.store in
+    let b₂ = c.put_patch.new.store in
     let a = c.args.accession in
     let rows = c.args.rows.now in
     record {
-      kept = c.store-patch.ensures.kept;
+      kept = c.store_patch.ensures.kept;
       bytes =
-          c.store-patch.ensures.bytes
-          ∙ ap (each (length ms) (store_channel ms l k k.held rows)) c.put-patch.ensures
+          c.store_patch.ensures.bytes
+          ∙ ap (each (length ms) (store_channel ms l k k.held rows)) c.put_patch.ensures
           ∙ ap (λ (z : Layout). each (length ms) (store_channel ms z k k.held rows) (put (row_at z k.held) rows (put (number_at k.held) (be16 a) b))) c.requires.ready.layout;
       asks =
-          adds_among (s.asked c.args.set.now) (s.asked c.store-patch.new.set) (InsertAsks ms k b₂ rows) (InsertAsks ms k b rows)
-          (insert_asks_same ms k b₂ b rows (patch_leaves ms k l b c.requires.ready k.held a rows b₂ c.requires.free c.requires.rows c.put-patch.ensures))
-          c.store-patch.ensures.asks;
+          adds_among (s.asked c.args.set.now) (s.asked c.store_patch.new.set) (InsertAsks ms k b₂ rows) (InsertAsks ms k b rows)
+          (insert_asks_same ms k b₂ b rows (patch_leaves ms k l b c.requires.ready k.held a rows b₂ c.requires.free c.requires.rows c.put_patch.ensures))
+          c.store_patch.ensures.asks;
     }

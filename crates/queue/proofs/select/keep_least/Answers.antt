@@ -10,7 +10,7 @@ pub loop-v-preserved : goal.loop-v-preserved
 loop-v-preserved c =
     let l = c.loop-v in
     let i : l.v-index < length c.args.values.now = omega arith in
-    let t = c.take-in-len in
+    let t = c.take_in-len in
     subst (λ p. Keeping c.args.k t.result p c.args.scratch.now t.new.scratch) (sym (take_more c.args.values.now l.v-index 0 i))
     (keep_steps c.args.k l.len t.result _ _ c.args.scratch.now l.scratch t.new.scratch (omega arith) t.ensures l.invariant)
 

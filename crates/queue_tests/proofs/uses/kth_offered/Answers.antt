@@ -10,8 +10,8 @@ use Rattle.queue_tests.proofs.uses.kth_offered.Goals as goal
 pub loop-v-init : goal.loop-v-init
 loop-v-init c = (omega arith, none_kept c.args.k)
 
-pub returns-in-default : goal.returns-in-default
-returns-in-default c = inl (⊎_elim (λ l. absurd (omega (arith, c.loop-v.invariant.0))) (λ l. omega arith) c.in-default.ensures.0)
+pub returns-in_default : goal.returns-in_default
+returns-in_default c = inl (⊎_elim (λ l. absurd (omega (arith, c.loop-v.invariant.0))) (λ l. omega arith) c.in_default.ensures.0)
 
 pub loop-v-preserved : goal.loop-v-preserved
 loop-v-preserved c =

@@ -12,9 +12,9 @@ under (Some x) P Q Q' f h = f x h
 pub returns : goal.returns
 returns c =
     let xs = c.args.slots.now in
-    let ys = c.replace-top.new.slots in
+    let ys = c.replace_top.new.slots in
     let n = c.args.len in
     let top = c.in-Some.top in
-    under c.replace-top.result _ _ _
+    under c.replace_top.result _ _ _
     (λ y h. subst (λ (z : Entry). Replaced ByBound n (rebound c.args.bound z) y xs ys) (same_top ByBound n n top y xs c.in-Some.ensures h.top) h)
-    c.replace-top.ensures
+    c.replace_top.ensures

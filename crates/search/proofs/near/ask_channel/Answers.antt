@@ -22,17 +22,17 @@ loop-p-preserved g c =
     let b = c.args.store.now in
     let l = c.args.l.now in
     let k = c.args.counts.now in
-    let lt : p < pivots_in k i = omega (arith, c.loop-p-test.true, c.pivots-in-p-end.ensures) in
+    let lt : p < pivots_in k i = omega (arith, c.loop-p-test.true, c.pivots_in-p-end.ensures) in
     let room : p < length c.loop-p.near = omega (arith, c.loop-p.invariant.1, c.requires.ready.eight i) in
     let x = ap (λ (ls : List Model). row (few ls) i q) same in
     let y = ap (λ (ls : List Model). pivot_row (few ls) l i p b) same in
     let f : ℕ → ℕ = λ j. (at (few ms) i).dist (row (few ms) i q) (pivot_row (few ms) l i j b) in
-    let v = c.pivot-distance.ensures.value ∙ ap (λ (ls : List Model). (at (few ls) i).dist (row (few ls) i q) (pivot_row (few ls) l i p b)) same in (
-      c.pivot-distance.ensures.kept ∙ same,
-      length-set c.loop-p.near p c.pivot-distance.result ∙ c.loop-p.invariant.1,
-      write_near f c.loop-p.near p c.pivot-distance.result room v c.loop-p.invariant.2,
-      adds_pair (s.asked c.args.set.now) (s.asked c.loop-p.set) (s.asked c.pivot-distance.new.set) (NearAsks (few ms) k b q) i _ _
-          c.loop-p.invariant.3 c.pivot-distance.ensures.adds
+    let v = c.pivot_distance.ensures.value ∙ ap (λ (ls : List Model). (at (few ls) i).dist (row (few ls) i q) (pivot_row (few ls) l i p b)) same in (
+      c.pivot_distance.ensures.kept ∙ same,
+      length-set c.loop-p.near p c.pivot_distance.result ∙ c.loop-p.invariant.1,
+      write_near f c.loop-p.near p c.pivot_distance.result room v c.loop-p.invariant.2,
+      adds_pair (s.asked c.args.set.now) (s.asked c.loop-p.set) (s.asked c.pivot_distance.new.set) (NearAsks (few ms) k b q) i _ _
+          c.loop-p.invariant.3 c.pivot_distance.ensures.adds
           (c.requires.channel, x, (p, lt, y ∙ ap (λ (z : Layout). pivot_row (few ms) z i p b) c.requires.ready.layout)),
     )
 
@@ -41,7 +41,7 @@ returns g c =
     let ms = g.S.ChannelSet.models c.args.set.now in
     record {
       near = near_from (few ms) c.args.counts.now c.args.l.now c.args.store.now c.args.query.now c.args.c c.loop-p.near
-          c.requires.ready.layout c.loop-p.invariant.1 (λ j h. c.loop-p.invariant.2 j (omega (arith, c.pivots-in-p-end.ensures)));
+          c.requires.ready.layout c.loop-p.invariant.1 (λ j h. c.loop-p.invariant.2 j (omega (arith, c.pivots_in-p-end.ensures)));
       kept = c.loop-p.invariant.0;
       asks = c.loop-p.invariant.3;
     }

@@ -17,13 +17,13 @@ loop-c-preserved g c =
     let b = c.args.store.now in
     let q = c.args.query.now in
     let t = c.loop-c.table in
-    let v = c.ask-channel.result in
+    let v = c.ask_channel.result in
     let room : i < length t = omega (arith, c.loop-c.invariant.1, c.requires.ready.sound.channels_few) in (
-      c.ask-channel.ensures.kept ∙ same,
+      c.ask_channel.ensures.kept ∙ same,
       length-set t i v ∙ c.loop-c.invariant.1,
       below_more _ _
           (λ j h. let ne : j ≢ i = omega arith in subst (λ (xs : List ℕ). NearIn (few ms) k b q j xs) (sym (get_or-set_other t i j v [] ne)) (c.loop-c.invariant.2 j h))
-          (subst (λ (xs : List ℕ). NearIn (few ms) k b q i xs) (sym (get_or-set_same t i v [] room)) (subst (λ (ls : List Model). NearIn (few ls) k b q i v) same c.ask-channel.ensures.near)),
-      adds_more (s.asked c.args.set.now) (s.asked c.loop-c.set) (s.asked c.ask-channel.new.set) (NearAsks (few ms) k b q) c.loop-c.invariant.3
-          (subst (λ (ls : List Model). AddsOnly (s.asked c.loop-c.set) (s.asked c.ask-channel.new.set) (NearAsks (few ls) k b q)) same c.ask-channel.ensures.asks),
+          (subst (λ (xs : List ℕ). NearIn (few ms) k b q i xs) (sym (get_or-set_same t i v [] room)) (subst (λ (ls : List Model). NearIn (few ls) k b q i v) same c.ask_channel.ensures.near)),
+      adds_more (s.asked c.args.set.now) (s.asked c.loop-c.set) (s.asked c.ask_channel.new.set) (NearAsks (few ms) k b q) c.loop-c.invariant.3
+          (subst (λ (ls : List Model). AddsOnly (s.asked c.loop-c.set) (s.asked c.ask_channel.new.set) (NearAsks (few ls) k b q)) same c.ask_channel.ensures.asks),
     )

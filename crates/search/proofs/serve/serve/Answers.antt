@@ -11,7 +11,7 @@ pub returns : goal.returns
 returns g c =
     let S = g.S.ChannelSet in
     let a = c.args in
-    let n = c.ask-pivots-near in
+    let n = c.ask_pivots-near in
     let r = c.refine in
     let b = a.store.now in
     let rows = a.rows.now in
@@ -22,8 +22,8 @@ returns g c =
       searched = ran_wider (held_tables (few ms) k b rows) q r.result a.hits.now r.new.hits (S.asked n.new.set) (either (S.asked a.set.now) (NearAsks (few ms) k b rows)) (S.asked r.new.meter)
           n.ensures.asks
           (subst (λ (ls : List Model). Ran (held_tables (few ls) k b rows) q r.result a.hits.now r.new.hits (S.asked n.new.set) (S.asked r.new.meter)) n.ensures.kept r.ensures.ran);
-      rows = λ i. omega (arith, c.type-inv.rows i);
-      weights = λ i. omega (arith, c.type-inv.weights i);
+      rows = λ i. omega (arith, c.type_inv.rows i);
+      weights = λ i. omega (arith, c.type_inv.weights i);
       same = r.ensures.same ∙ n.ensures.kept;
       candidates = r.ensures.candidates;
       uppers = r.ensures.uppers;

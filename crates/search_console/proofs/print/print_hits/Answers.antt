@@ -11,7 +11,7 @@ loop-hit-preserved c =
     let hits = c.args.hits.now in
     let i = c.loop-hit.hit-index in
     let none : Neighbor = record { accession = 0; distance = 0 } in
-    behind out _ _ (hit_lines (take i hits)) (hit_line (get_or hits i none)) c.loop-hit.invariant c.in-ok-print-hit.ensures
+    behind out _ _ (hit_lines (take i hits)) (hit_line (get_or hits i none)) c.loop-hit.invariant c.in_ok-print_hit.ensures
     ∙ ap (λ (l : List ℕ). out ++ l) (sym (hits_more hits i none c.loop-hit-test.true))
 
 pub returns : goal.returns

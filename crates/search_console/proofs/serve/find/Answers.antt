@@ -12,7 +12,7 @@ returns g c =
       replies =
           replied (few (g.S.ChannelSet.models a.index.now.set)) (room_of (length a.hits.now) (length a.candidates.now) (length a.uppers.now))
           (written a.index.now.counts a.store.now) a.aggregate a.weights.now a.k a.radius a.budget a.rows.now
-          c.in-ok-choose.field-0 c.in-ok-choose.ensures c.nearest.result a.hits.now c.nearest.new.hits _ _ e.answer e.searched;
+          c.in_ok-choose.field-0 c.in_ok-choose.ensures c.nearest.result a.hits.now c.nearest.new.hits _ _ e.answer e.searched;
       within = named_within _ _ _ _ _ c.nearest.result a.hits.now c.nearest.new.hits _ _ e.searched;
       counts = e.counts;
       same = e.same;

@@ -17,7 +17,7 @@ returns-in-Insert g c =
           served ms (room_of (length a.hits.now) (length a.candidates.now) (length a.uppers.now)) (written x.counts a.store.now) (written c.insert.new.self.counts c.insert.new.store)
           a.command (insert c.in-Insert.accession c.in-Insert.rows.now) (ap meant c.in-Insert.is) e.counts e.bytes
           (insert_refusal ms x.counts a.store.now c.in-Insert.accession c.in-Insert.rows.now) c.insert.result c.code.result (codes "L")
-          (λ _ h. h) c.code.ensures e.answer c.print-line.result (string_bytes a.out.now) (string_bytes c.print-line.new.out) c.print-line.ensures;
+          (λ _ h. h) c.code.ensures e.answer c.print_line.result (string_bytes a.out.now) (string_bytes c.print_line.new.out) c.print_line.ensures;
       same = e.same;
     }
 
@@ -32,7 +32,7 @@ returns-in-Remove g c =
           served ms (room_of (length a.hits.now) (length a.candidates.now) (length a.uppers.now)) (written x.counts a.store.now) (written c.remove.new.self.counts c.remove.new.store)
           a.command (remove c.in-Remove.accession) (ap meant c.in-Remove.is) e.counts e.bytes
           (remove_refusal ms x.counts a.store.now c.in-Remove.accession) c.remove.result c.code-in-Remove.result (codes "U")
-          (λ _ h. h) c.code-in-Remove.ensures e.answer c.print-line-in-Remove.result (string_bytes a.out.now) (string_bytes c.print-line-in-Remove.new.out) c.print-line-in-Remove.ensures;
+          (λ _ h. h) c.code-in-Remove.ensures e.answer c.print_line-in-Remove.result (string_bytes a.out.now) (string_bytes c.print_line-in-Remove.new.out) c.print_line-in-Remove.ensures;
       same = ap (λ s. g.S.ChannelSet.models s) e.same;
     }
 
@@ -47,7 +47,7 @@ returns-in-AddPivot g c =
           served ms (room_of (length a.hits.now) (length a.candidates.now) (length a.uppers.now)) (written x.counts a.store.now) (written c.add_pivot.new.self.counts c.add_pivot.new.store)
           a.command (add_pivot c.in-AddPivot.channel c.in-AddPivot.accession) (ap meant c.in-AddPivot.is) e.counts e.bytes
           (add_refusal ms x.counts a.store.now c.in-AddPivot.channel c.in-AddPivot.accession) c.add_pivot.result c.code-in-AddPivot.result (codes "P")
-          (λ _ h. h) c.code-in-AddPivot.ensures e.answer c.print-line-in-AddPivot.result (string_bytes a.out.now) (string_bytes c.print-line-in-AddPivot.new.out) c.print-line-in-AddPivot.ensures;
+          (λ _ h. h) c.code-in-AddPivot.ensures e.answer c.print_line-in-AddPivot.result (string_bytes a.out.now) (string_bytes c.print_line-in-AddPivot.new.out) c.print_line-in-AddPivot.ensures;
       same = e.same;
     }
 
@@ -62,7 +62,7 @@ returns-in-RemovePivot g c =
           served ms (room_of (length a.hits.now) (length a.candidates.now) (length a.uppers.now)) (written x.counts a.store.now) (written c.remove_pivot.new.self.counts c.remove_pivot.new.store)
           a.command (remove_pivot c.in-RemovePivot.channel c.in-RemovePivot.pivot) (ap meant c.in-RemovePivot.is) e.counts e.bytes
           (free_refusal ms x.counts a.store.now c.in-RemovePivot.channel c.in-RemovePivot.pivot) c.remove_pivot.result c.code-in-RemovePivot.result (codes "R")
-          (λ _ h. h) c.code-in-RemovePivot.ensures e.answer c.print-line-in-RemovePivot.result (string_bytes a.out.now) (string_bytes c.print-line-in-RemovePivot.new.out) c.print-line-in-RemovePivot.ensures;
+          (λ _ h. h) c.code-in-RemovePivot.ensures e.answer c.print_line-in-RemovePivot.result (string_bytes a.out.now) (string_bytes c.print_line-in-RemovePivot.new.out) c.print_line-in-RemovePivot.ensures;
       same = ap (λ s. g.S.ChannelSet.models s) e.same;
     }
 
@@ -76,6 +76,6 @@ returns-in-Nearest g c =
       serves =
           searched (few (g.S.ChannelSet.models x.set)) (room_of (length a.hits.now) (length a.candidates.now) (length a.uppers.now)) (written x.counts a.store.now) (written f.new.index.counts a.store.now)
           a.command n.aggregate n.weights.now n.k n.radius n.budget n.rows.now (ap meant n.is) f.ensures.counts refl
-          f.result a.hits.now f.new.hits f.ensures.replies c.print-reply.result (string_bytes a.out.now) (string_bytes c.print-reply.new.out) c.print-reply.ensures;
+          f.result a.hits.now f.new.hits f.ensures.replies c.print_reply.result (string_bytes a.out.now) (string_bytes c.print_reply.new.out) c.print_reply.ensures;
       same = f.ensures.same;
     }

@@ -4,7 +4,7 @@ use Rattle.index.proofs.layout.Layout.distance_at.Goals as goal
 
 pub returns : goal.returns
 returns c = record {
-  at = c.distance-address.ensures;
-  begins = omega (arith, c.distance-address.ensures);
-  ends = omega (arith, c.distance-address.ensures, next_le c.args.slot c.args.self.now.capacity c.args.self.now.channels c.requires.slot, c.requires.sound.size, c.requires.channel, c.requires.pivot);
+  at = c.distance_address.ensures;
+  begins = omega (arith, c.distance_address.ensures);
+  ends = omega (arith, c.distance_address.ensures, next_le c.args.slot c.args.self.now.capacity c.args.self.now.channels c.requires.slot, c.requires.sound.size, c.requires.channel, c.requires.pivot);
 }

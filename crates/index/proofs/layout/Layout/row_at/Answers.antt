@@ -4,7 +4,7 @@ use Rattle.index.proofs.layout.Layout.row_at.Goals as goal
 
 pub returns : goal.returns
 returns c = record {
-  at = c.row-address.ensures;
-  begins = omega (arith, c.row-address.ensures);
-  ends = omega (arith, c.row-address.ensures, next_le c.args.slot c.args.self.now.capacity c.args.self.now.row c.requires.slot, c.requires.sound.pivots);
+  at = c.row_address.ensures;
+  begins = omega (arith, c.row_address.ensures);
+  ends = omega (arith, c.row_address.ensures, next_le c.args.slot c.args.self.now.capacity c.args.self.now.row c.requires.slot, c.requires.sound.pivots);
 }

@@ -5,7 +5,7 @@ use Rattle.index.proofs.pivot_index.PivotIndex.add_pivot.Goals as goal
 
 pub returns : goal.returns
 returns g c =
-    let r = c.try-add-pivot.ensures in
+    let r = c.try_add_pivot.ensures in
     record {
       answer = r.answer;
       counts = r.counts;
@@ -13,5 +13,5 @@ returns g c =
       same = r.same;
       refused = r.refused;
       asks = r.asks;
-      history = holds_next _ _ _ _ _ _ (add_pivot c.args.channel c.args.accession) (omega arith) c.try-add-pivot.ensures.same r.counts r.bytes;
+      history = holds_next _ _ _ _ _ _ (add_pivot c.args.channel c.args.accession) (omega arith) c.try_add_pivot.ensures.same r.counts r.bytes;
     }

@@ -8,7 +8,7 @@ returns g c =
     let k = c.args.self.now.counts in
     let b = c.args.store.now in
     record {
-      value = c.slot-of.ensures;
+      value = c.slot_of.ensures;
       shows = law_shows ms k b;
-      held = λ cap b₀ h hold. c.slot-of.ensures ∙ holds_find ms cap k b b₀ h hold c.args.accession;
+      held = λ cap b₀ h hold. c.slot_of.ensures ∙ holds_find ms cap k b b₀ h hold c.args.accession;
     }

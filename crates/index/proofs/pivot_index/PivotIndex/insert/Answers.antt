@@ -5,7 +5,7 @@ use Rattle.index.proofs.pivot_index.PivotIndex.insert.Goals as goal
 
 pub returns : goal.returns
 returns g c =
-    let r = c.try-insert.ensures in
+    let r = c.try_insert.ensures in
     record {
       answer = r.answer;
       counts = r.counts;
@@ -13,5 +13,5 @@ returns g c =
       same = r.same;
       refused = r.refused;
       asks = r.asks;
-      history = holds_next _ _ _ _ _ _ (insert c.args.accession c.args.rows.now) (omega arith, λ k. omega (arith, c.type-inv.rows k)) c.try-insert.ensures.same r.counts r.bytes;
+      history = holds_next _ _ _ _ _ _ (insert c.args.accession c.args.rows.now) (omega arith, λ k. omega (arith, c.type_inv.rows k)) c.try_insert.ensures.same r.counts r.bytes;
     }

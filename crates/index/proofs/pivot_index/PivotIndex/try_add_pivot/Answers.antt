@@ -5,8 +5,8 @@ use Rattle.index.specs.Calls.{first_slot}
 use Rattle.index.proofs.Records.{eight_set}
 use Rattle.index.proofs.pivot_index.PivotIndex.try_add_pivot.Goals as goal
 
-pub invariant-of-self : goal.invariant-of-self
-invariant-of-self g c =
+pub invariant_of-self : goal.invariant_of-self
+invariant_of-self g c =
     let k = c.args.self.now.counts in
     (c.args.self.now.fits, (c.args.self.now.small, (eight_set k.channels c.args.channel c.grow.new.r c.args.self.now.eight c.grow.ensures.small, tt)))
 
@@ -20,7 +20,7 @@ returns g c =
       answer = search rules;
       counts = search rules;
       bytes = search rules;
-      same = c.store-pivot.ensures.kept;
+      same = c.store_pivot.ensures.kept;
       refused = search rules;
-      asks = subst (λ (j : ℕ). AddsOnly (s.asked c.args.self.now.set) (s.asked c.store-pivot.new.set) (PivotAsks (few (s.models c.args.self.now.set)) k b c.args.channel j)) e c.store-pivot.ensures.asks;
+      asks = subst (λ (j : ℕ). AddsOnly (s.asked c.args.self.now.set) (s.asked c.store_pivot.new.set) (PivotAsks (few (s.models c.args.self.now.set)) k b c.args.channel j)) e c.store_pivot.ensures.asks;
     }
