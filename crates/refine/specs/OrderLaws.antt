@@ -1,5 +1,5 @@
 -- The two orders in use, with the proofs that they are total orders: nothing here has to be believed.
-use Rattle.std.specs.Prelude.{◌≡◌, ℕ, ◌<◌, ◌≤◌, Bool, true, false, cond, ◌⊎◌, ◌==◌, nat_lt, refl}
+use Rattle.std.specs.Prelude.{◌≡◌, ℕ, ◌<◌, ◌≤◌, Bool, true, false, cond, ◌⊎◌, ◌==◌, nat_lt, nat_le, refl}
 use Rattle.std.proofs.Common.{sym, ap, ◌∙◌, inl, inr, arith, ltb-true, ltb-false, leb-true, leb-false, eqb-true, lt-ltb, le-leb, eq-eqb, ne_eqb}
 use Rattle.std.proofs.lemmas.Bool.{eqb-false}
 use Rattle.refine.specs.Orders.{Order, number_first}
@@ -7,7 +7,7 @@ use Rattle.refine.specs.Orders.{Order, number_first}
 -- the numbers, the lesser first
 abbrev pub numbers : Order ℕ
 numbers = record {
-  le = leb;
+  le = nat_le;
   connected = λ a b h. le-leb b a (let g = leb-false a b h in omega arith);
   transitive = λ a b c h g. le-leb a c (let h' = leb-true a b h in let g' = leb-true b c g in omega arith);
   antisymmetric = λ a b h g. (let h' = leb-true a b h in let g' = leb-true b a g in omega arith);

@@ -46,5 +46,5 @@ returns g c =
 
 pub returns-in_err-more : goal.returns-in_err-more
 returns-in_err-more g c =
-    let p = err_from_is_err_and c.from-residual.result c.from-residual.ensures.1 in
+    let p = err_from_is_err_and c.from_residual.result c.from_residual.ensures.1 in
     record { same = c.turn.ensures.same ∙ c.loop-more.invariant.0; session = rw p.1 tt; promised = rw p.1 tt }

@@ -13,7 +13,7 @@ returns c =
 
 pub returns-in_err-command : goal.returns-in_err-command
 returns-in_err-command c =
-    let p = err_from_is_err_and c.from-residual.result c.from-residual.ensures.1 in
+    let p = err_from_is_err_and c.from_residual.result c.from_residual.ensures.1 in
     let f = c.args.self.now.format in
     let b = c.args.self.now.rest.now in
     let n = c.in_err-command.ensures in

@@ -8,7 +8,7 @@ use Rattle.index.proofs.pivot_index.PivotIndex.try_add_pivot.Goals as goal
 pub invariant_of-self : goal.invariant_of-self
 invariant_of-self g c =
     let k = c.args.self.now.counts in
-    (c.args.self.now.fits, (c.args.self.now.small, (eight_set k.channels c.args.channel c.grow.new.r c.args.self.now.eight c.grow.ensures.small, tt)))
+    record { fits = c.args.self.now.fits; small = c.args.self.now.small; eight = eight_set k.channels c.args.channel c.grow.new.r c.args.self.now.eight c.grow.ensures.small }
 
 pub returns : goal.returns
 returns g c =

@@ -8,4 +8,4 @@ pub invariant_of-self : goal.invariant_of-self
 invariant_of-self g c =
     let k = c.args.self.now.counts in
     let e : c.shrink.new.r.pivots ≡ pivots_in k c.args.channel - 1 = ap (λ (x : ChannelRecord). x.pivots) c.shrink.ensures in
-    (c.args.self.now.fits, (c.args.self.now.small, (eight_set k.channels c.args.channel c.shrink.new.r c.args.self.now.eight (omega (arith, c.args.self.now.eight c.args.channel)), tt)))
+    record { fits = c.args.self.now.fits; small = c.args.self.now.small; eight = eight_set k.channels c.args.channel c.shrink.new.r c.args.self.now.eight (omega (arith, c.args.self.now.eight c.args.channel)) }
