@@ -19,7 +19,8 @@ use std::fmt;
 fn print_line(out: &mut String, letter: &str, number: u8) -> fmt::Result
     ensures { OnOk result (string_bytes out.new ≡ string_bytes out.old ++ line letter.now number) }
 {
-    write!(out, "{letter} {number}\n")
+    write!(out, "{letter} {number}\n")?;
+    Ok(())
 }
 
 // The number that a call answers: 0, or its refusal's.

@@ -11,7 +11,8 @@ use std::fmt;
 pub(crate) fn print_line(out: &mut String, letter: &str, number: u8) -> fmt::Result
     ensures { OnOk result (string_bytes out.new ≡ string_bytes out.old ++ line letter.now number) }
 {
-    write!(out, "{letter} {number}\n")
+    write!(out, "{letter} {number}\n")?;
+    Ok(())
 }
 
 // 1 for a search that has finished, 0 for one that its budget stopped.
@@ -30,14 +31,16 @@ fn print_summary(out: &mut String, answer: Answer) -> fmt::Result
         out,
         "C 0 {finished} {} {} {}\n",
         answer.named, answer.measured, answer.admitted
-    )
+    )?;
+    Ok(())
 }
 
 // Prints a hit.
 fn print_hit(out: &mut String, hit: Neighbor) -> fmt::Result
     ensures { OnOk result (string_bytes out.new ≡ string_bytes out.old ++ hit_line hit) }
 {
-    write!(out, "N {} {}\n", hit.accession, hit.distance)
+    write!(out, "N {} {}\n", hit.accession, hit.distance)?;
+    Ok(())
 }
 
 // Prints hits in order.
