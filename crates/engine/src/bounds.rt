@@ -45,13 +45,13 @@ pub(crate) fn weigh<M, S: Source<M>>(
     lowers: &mut [Weighted],
     uppers: &mut [Weighted],
 )
-    requires ready { ready source.now meter.now }
-    requires slot { slot < (tables source.now meter.now).slots }
-    requires weights { length weights.now ≡ (tables source.now meter.now).channels }
+    requires ready { S.ready source.now meter.now }
+    requires slot { slot < (S.tables source.now meter.now).slots }
+    requires weights { length weights.now ≡ (S.tables source.now meter.now).channels }
     requires lowers { length weights.now ≤ length lowers.old }
     requires uppers { length weights.now ≤ length uppers.old }
-    ensures lowers { Filled (weighted_lower (tables source.now meter.now) weights.now slot) (length weights.now) lowers.new }
-    ensures uppers { Filled (weighted_upper (tables source.now meter.now) weights.now slot) (length weights.now) uppers.new }
+    ensures lowers { Filled (weighted_lower (S.tables source.now meter.now) weights.now slot) (length weights.now) lowers.new }
+    ensures uppers { Filled (weighted_upper (S.tables source.now meter.now) weights.now slot) (length weights.now) uppers.new }
 {
     for c in 0..weights.len() {
         let (lower, upper) = weighted(source, meter, weights, slot, c);
@@ -68,11 +68,11 @@ pub(crate) fn extremes<M, S: Source<M>, A: Aggregate>(
     weights: &[u8],
     slot: usize,
 ) -> (Weighted, Weighted)
-    requires ready { ready source.now meter.now }
-    requires slot { slot < (tables source.now meter.now).slots }
-    requires weighable { Weighable (tables source.now meter.now) weights.now }
-    ensures lower { result.0 ≡ (slot_family (tables source.now meter.now) weights.now (A.Aggregate.meaning aggregate.now)).bound slot 0 }
-    ensures upper { result.1 ≡ (slot_family (tables source.now meter.now) weights.now (A.Aggregate.meaning aggregate.now)).upper slot }
+    requires ready { S.ready source.now meter.now }
+    requires slot { slot < (S.tables source.now meter.now).slots }
+    requires weighable { Weighable (S.tables source.now meter.now) weights.now }
+    ensures lower { result.0 ≡ (slot_family (S.tables source.now meter.now) weights.now (A.Aggregate.meaning aggregate.now)).bound slot 0 }
+    ensures upper { result.1 ≡ (slot_family (S.tables source.now meter.now) weights.now (A.Aggregate.meaning aggregate.now)).upper slot }
 {
     let mut lowers: [Weighted; 8] = [0; 8];
     let mut uppers: [Weighted; 8] = [0; 8];
@@ -109,11 +109,11 @@ pub(crate) fn unmeasured<M, S: Source<M>>(
     slot: usize,
     bound: Weighted,
 ) -> Candidate
-    requires ready { ready source.now meter.now }
-    requires slot { slot < (tables source.now meter.now).slots }
-    requires few { (tables source.now meter.now).slots ≤ 4096 }
-    requires weighable { Weighable (tables source.now meter.now) weights.now }
-    ensures { Unmeasured (tables source.now meter.now) weights.now slot bound result }
+    requires ready { S.ready source.now meter.now }
+    requires slot { slot < (S.tables source.now meter.now).slots }
+    requires few { (S.tables source.now meter.now).slots ≤ 4096 }
+    requires weighable { Weighable (S.tables source.now meter.now) weights.now }
+    ensures { Unmeasured (S.tables source.now meter.now) weights.now slot bound result }
 {
     let mut lowers: [Weighted; 8] = [0; 8];
     let mut gaps: [Weighted; 8] = [0; 8];

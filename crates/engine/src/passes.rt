@@ -64,13 +64,13 @@ pub(crate) fn limit<M, S: Source<M>, A: Aggregate>(
     candidates: &mut [Candidate],
     uppers: &mut [Upper],
 ) -> Option<Weighted>
-    requires ready { ready source.now meter.now }
-    requires weighable { Weighable (tables source.now meter.now) weights.now }
+    requires ready { S.ready source.now meter.now }
+    requires weighable { Weighable (S.tables source.now meter.now) weights.now }
     requires wanted { 1 ≤ k }
-    requires room { (tables source.now meter.now).slots ≤ length candidates.old }
-    requires scratch { (tables source.now meter.now).slots ≤ length uppers.old }
-    ensures bounds { FirstBounds (slot_family (tables source.now meter.now) weights.now (A.Aggregate.meaning aggregate.now)) (tables source.now meter.now).slots candidates.new }
-    ensures value { plain result ≡ threshold (slot_family (tables source.now meter.now) weights.now (A.Aggregate.meaning aggregate.now)) k (range_with_len 0 (tables source.now meter.now).slots) }
+    requires room { (S.tables source.now meter.now).slots ≤ length candidates.old }
+    requires scratch { (S.tables source.now meter.now).slots ≤ length uppers.old }
+    ensures bounds { FirstBounds (slot_family (S.tables source.now meter.now) weights.now (A.Aggregate.meaning aggregate.now)) (S.tables source.now meter.now).slots candidates.new }
+    ensures value { plain result ≡ threshold (slot_family (S.tables source.now meter.now) weights.now (A.Aggregate.meaning aggregate.now)) k (range_with_len 0 (S.tables source.now meter.now).slots) }
 {
     let len = survey(source, meter, aggregate, weights, k, candidates, uppers);
     select::threshold(uppers, len, k)
@@ -117,11 +117,11 @@ pub(crate) fn admit<M, S: Source<M>>(
     limit: Option<Weighted>,
     candidates: &mut [Candidate],
 ) -> usize
-    requires ready { ready source.now meter.now }
-    requires few { (tables source.now meter.now).slots ≤ 4096 }
-    requires weighable { Weighable (tables source.now meter.now) weights.now }
-    requires room { (tables source.now meter.now).slots ≤ length candidates.old }
-    ensures { Admits (tables source.now meter.now) weights.now (λ i. passes radius (plain limit) (bound_at candidates.old i)) (tables source.now meter.now).slots result candidates.old candidates.new }
+    requires ready { S.ready source.now meter.now }
+    requires few { (S.tables source.now meter.now).slots ≤ 4096 }
+    requires weighable { Weighable (S.tables source.now meter.now) weights.now }
+    requires room { (S.tables source.now meter.now).slots ≤ length candidates.old }
+    ensures { Admits (S.tables source.now meter.now) weights.now (λ i. passes radius (plain limit) (bound_at candidates.old i)) (S.tables source.now meter.now).slots result candidates.old candidates.new }
 {
     let mut len: usize = 0;
     for slot in 0..source.slots(meter) {

@@ -142,14 +142,14 @@ pub(crate) fn step<M, S: Source<M>, A: Aggregate>(
     hits: &mut [Neighbor],
     progress: &mut Progress,
 ) -> Event
-    requires ready { ready source.now meter.old }
-    requires weighable { Weighable (tables source.now meter.old) weights.now }
-    requires room { min k (tables source.now meter.old).slots ≤ length hits.old }
-    requires stands { (old : List Neighbor) × (s : State ℕ) × Stands (tables source.now meter.old) (asking weights.now (A.Aggregate.meaning aggregate.now) k radius budget) old candidates.old hits.old progress.old s }
-    ensures steps { (old : List Neighbor) (s : State ℕ) → Stands (tables source.now meter.old) (asking weights.now (A.Aggregate.meaning aggregate.now) k radius budget) old candidates.old hits.old progress.old s → Steps result (tables source.now meter.old) (asking weights.now (A.Aggregate.meaning aggregate.now) k radius budget) s old candidates.old candidates.new hits.old hits.new progress.old progress.new (asked source.now meter.old) (asked source.now meter.new) }
-    ensures kept { tables source.now meter.new ≡ tables source.now meter.old }
-    ensures same { metrics source.now meter.new ≡ metrics source.now meter.old }
-    ensures ready { ready source.now meter.new }
+    requires ready { S.ready source.now meter.old }
+    requires weighable { Weighable (S.tables source.now meter.old) weights.now }
+    requires room { min k (S.tables source.now meter.old).slots ≤ length hits.old }
+    requires stands { (old : List Neighbor) × (s : State ℕ) × Stands (S.tables source.now meter.old) (asking weights.now (A.Aggregate.meaning aggregate.now) k radius budget) old candidates.old hits.old progress.old s }
+    ensures steps { (old : List Neighbor) (s : State ℕ) → Stands (S.tables source.now meter.old) (asking weights.now (A.Aggregate.meaning aggregate.now) k radius budget) old candidates.old hits.old progress.old s → Steps result (S.tables source.now meter.old) (asking weights.now (A.Aggregate.meaning aggregate.now) k radius budget) s old candidates.old candidates.new hits.old hits.new progress.old progress.new (S.asked source.now meter.old) (S.asked source.now meter.new) }
+    ensures kept { S.tables source.now meter.new ≡ S.tables source.now meter.old }
+    ensures same { S.metrics source.now meter.new ≡ S.metrics source.now meter.old }
+    ensures ready { S.ready source.now meter.new }
 {
     let at = *progress;
     if at.named >= k {
@@ -185,14 +185,14 @@ pub(crate) fn run<M, S: Source<M>, A: Aggregate>(
     hits: &mut [Neighbor],
     progress: &mut Progress,
 ) -> bool
-    requires ready { ready source.now meter.old }
-    requires weighable { Weighable (tables source.now meter.old) weights.now }
-    requires room { min k (tables source.now meter.old).slots ≤ length hits.old }
-    requires stands { (old : List Neighbor) × (s : State ℕ) × Stands (tables source.now meter.old) (asking weights.now (A.Aggregate.meaning aggregate.now) k radius budget) old candidates.old hits.old progress.old s }
-    ensures ends { (old : List Neighbor) (s : State ℕ) → Stands (tables source.now meter.old) (asking weights.now (A.Aggregate.meaning aggregate.now) k radius budget) old candidates.old hits.old progress.old s → Ends (tables source.now meter.old) (asking weights.now (A.Aggregate.meaning aggregate.now) k radius budget) s result old hits.new progress.new (asked source.now meter.old) (asked source.now meter.new) }
-    ensures kept { tables source.now meter.new ≡ tables source.now meter.old }
-    ensures same { metrics source.now meter.new ≡ metrics source.now meter.old }
-    ensures ready { ready source.now meter.new }
+    requires ready { S.ready source.now meter.old }
+    requires weighable { Weighable (S.tables source.now meter.old) weights.now }
+    requires room { min k (S.tables source.now meter.old).slots ≤ length hits.old }
+    requires stands { (old : List Neighbor) × (s : State ℕ) × Stands (S.tables source.now meter.old) (asking weights.now (A.Aggregate.meaning aggregate.now) k radius budget) old candidates.old hits.old progress.old s }
+    ensures ends { (old : List Neighbor) (s : State ℕ) → Stands (S.tables source.now meter.old) (asking weights.now (A.Aggregate.meaning aggregate.now) k radius budget) old candidates.old hits.old progress.old s → Ends (S.tables source.now meter.old) (asking weights.now (A.Aggregate.meaning aggregate.now) k radius budget) s result old hits.new progress.new (S.asked source.now meter.old) (S.asked source.now meter.new) }
+    ensures kept { S.tables source.now meter.new ≡ S.tables source.now meter.old }
+    ensures same { S.metrics source.now meter.new ≡ S.metrics source.now meter.old }
+    ensures ready { S.ready source.now meter.new }
 {
     'steps: loop {
         match step(

@@ -76,7 +76,7 @@ pub(crate) fn open<S: ChannelSet>(
     k: u16,
     sizes: Sizes,
 ) -> Result<Layout, Refusal>
-    ensures { Opens (few (models index.now.set)) index.now.counts store.now k sizes result }
+    ensures { Opens (few (S.models index.now.set)) index.now.counts store.now k sizes result }
 {
     let l = index.layout_in(store)?;
     check_question(&l, index.counts.held, k, sizes)?;

@@ -42,11 +42,11 @@ pub(crate) fn ask_pivots<S: ChannelSet>(
     store: &[u8],
     query: &[u8],
 ) -> [[u16; 8]; 8]
-    requires ready { Ready (few (models set.old)) counts.now l.now store.now }
-    requires query { length query.now ≡ patch_width (few (models set.old)) }
-    ensures near { NearTable (few (models set.old)) counts.now store.now query.now result }
-    ensures kept { models set.new ≡ models set.old }
-    ensures asks { AddsOnly (asked set.old) (asked set.new) (NearAsks (few (models set.old)) counts.now store.now query.now) }
+    requires ready { Ready (few (S.models set.old)) counts.now l.now store.now }
+    requires query { length query.now ≡ patch_width (few (S.models set.old)) }
+    ensures near { NearTable (few (S.models set.old)) counts.now store.now query.now result }
+    ensures kept { S.models set.new ≡ S.models set.old }
+    ensures asks { AddsOnly (S.asked set.old) (S.asked set.new) (NearAsks (few (S.models set.old)) counts.now store.now query.now) }
 {
     let mut table = [[0u16; 8]; 8];
     for c in 0..l.channels {

@@ -75,13 +75,13 @@ pub(crate) fn pivot_distance<S: ChannelSet>(
     c: usize,
     p: usize,
 ) -> u16
-    requires ready { Ready (few (models set.old)) counts.now l.now store.now }
-    requires query { length query.now ≡ patch_width (few (models set.old)) }
-    requires channel { c < length (few (models set.old)) }
+    requires ready { Ready (few (S.models set.old)) counts.now l.now store.now }
+    requires query { length query.now ≡ patch_width (few (S.models set.old)) }
+    requires channel { c < length (few (S.models set.old)) }
     requires pivot { p < 8 }
-    ensures value { result ≡ (at (few (models set.old)) c).dist (row (few (models set.old)) c query.now) (row_of_pivot (few (models set.old)) l.now c p store.now) }
-    ensures kept { models set.new ≡ models set.old }
-    ensures adds { AddsAt (asked set.old) (asked set.new) c (row (few (models set.old)) c query.now) (row_of_pivot (few (models set.old)) l.now c p store.now) }
+    ensures value { result ≡ (at (few (S.models set.old)) c).dist (row (few (S.models set.old)) c query.now) (row_of_pivot (few (S.models set.old)) l.now c p store.now) }
+    ensures kept { S.models set.new ≡ S.models set.old }
+    ensures adds { AddsAt (S.asked set.old) (S.asked set.new) c (row (few (S.models set.old)) c query.now) (row_of_pivot (few (S.models set.old)) l.now c p store.now) }
 {
     let asked = query_row(set, l, query, c);
     let pivot = pivot_row(set, l, counts, store, c, p);
@@ -98,13 +98,13 @@ pub(crate) fn slot_distance<S: ChannelSet>(
     slot: usize,
     c: usize,
 ) -> u16
-    requires ready { Ready (few (models set.old)) counts.now l.now store.now }
-    requires query { length query.now ≡ patch_width (few (models set.old)) }
-    requires channel { c < length (few (models set.old)) }
+    requires ready { Ready (few (S.models set.old)) counts.now l.now store.now }
+    requires query { length query.now ≡ patch_width (few (S.models set.old)) }
+    requires channel { c < length (few (S.models set.old)) }
     requires slot { slot < counts.now.capacity }
-    ensures value { result ≡ (at (few (models set.old)) c).dist (row (few (models set.old)) c query.now) (row_of_slot (few (models set.old)) l.now c slot store.now) }
-    ensures kept { models set.new ≡ models set.old }
-    ensures adds { AddsAt (asked set.old) (asked set.new) c (row (few (models set.old)) c query.now) (row_of_slot (few (models set.old)) l.now c slot store.now) }
+    ensures value { result ≡ (at (few (S.models set.old)) c).dist (row (few (S.models set.old)) c query.now) (row_of_slot (few (S.models set.old)) l.now c slot store.now) }
+    ensures kept { S.models set.new ≡ S.models set.old }
+    ensures adds { AddsAt (S.asked set.old) (S.asked set.new) c (row (few (S.models set.old)) c query.now) (row_of_slot (few (S.models set.old)) l.now c slot store.now) }
 {
     let (asked, patch) = both_rows(set, l, counts, store, query, slot, c);
     set.distance(c, asked, patch)

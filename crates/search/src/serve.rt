@@ -34,12 +34,12 @@ pub(crate) fn serve<'a, S: ChannelSet, A: Aggregate>(
     candidates: &mut [Candidate],
     uppers: &mut [Upper],
 ) -> Answer
-    requires ready { Ready (few (models set.old)) counts.now l.now store.now }
-    requires granted { search_refusal (few (models set.old)) counts.now store.now k (handed (length rows.now) (length weights.now) (length hits.old) (length candidates.old) (length uppers.old)) ≡ None }
-    ensures searched { Searched (few (models set.old)) counts.now store.now (question rows.now weights.now (A.Aggregate.meaning aggregate.now) k radius) budget result hits.old hits.new (asked set.old) (asked set.new) }
+    requires ready { Ready (few (S.models set.old)) counts.now l.now store.now }
+    requires granted { search_refusal (few (S.models set.old)) counts.now store.now k (handed (length rows.now) (length weights.now) (length hits.old) (length candidates.old) (length uppers.old)) ≡ None }
+    ensures searched { Searched (few (S.models set.old)) counts.now store.now (question rows.now weights.now (A.Aggregate.meaning aggregate.now) k radius) budget result hits.old hits.new (S.asked set.old) (S.asked set.new) }
     ensures rows { (n : ℕ) → slice_index rows.now n < 256 }
     ensures weights { (n : ℕ) → slice_index weights.now n < 256 }
-    ensures same { models set.new ≡ models set.old }
+    ensures same { S.models set.new ≡ S.models set.old }
     ensures candidates { candidates.new ≡ replicate (length candidates.old) blank_candidate }
     ensures uppers { uppers.new ≡ replicate (length uppers.old) blank_upper }
 {

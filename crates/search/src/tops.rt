@@ -7,8 +7,8 @@ use metric::channels::ChannelSet;
 
 // By channel.
 pub(crate) fn ask_tops<S: ChannelSet>(set: &S, channels: usize) -> [u16; 8]
-    requires { channels ≡ length (few (models set.now)) }
-    ensures { TopTable (few (models set.now)) result }
+    requires { channels ≡ length (few (S.models set.now)) }
+    ensures { TopTable (few (S.models set.now)) result }
 {
     let mut tops = [0u16; 8];
     for c in 0..channels {

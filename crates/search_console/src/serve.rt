@@ -75,8 +75,8 @@ pub(crate) fn serve<S: ChannelSet>(
     uppers: &mut [Upper],
     out: &mut String,
 ) -> fmt::Result
-    ensures serves { OnOk result ((said : List ℕ) × Serves (few (models index.old.set)) (room_of (length hits.old) (length candidates.old) (length uppers.old)) (written index.old.counts store.old) (written index.new.counts store.new) (meant command.entry) said × (string_bytes out.new ≡ string_bytes out.old ++ said)) }
-    ensures same { models index.new.set ≡ models index.old.set }
+    ensures serves { OnOk result ((said : List ℕ) × Serves (few (S.models index.old.set)) (room_of (length hits.old) (length candidates.old) (length uppers.old)) (written index.old.counts store.old) (written index.new.counts store.new) (meant command.entry) said × (string_bytes out.new ≡ string_bytes out.old ++ said)) }
+    ensures same { S.models index.new.set ≡ S.models index.old.set }
 {
     match command {
         Command::Insert { accession, rows } => {

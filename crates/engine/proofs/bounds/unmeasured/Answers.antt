@@ -28,8 +28,8 @@ returns g c =
         within = omega arith;
         order = in_order_at (length (take (length w - 0) vs)) m (take (length w - 0) vs) c.rank.new.order n c.rank.ensures cs (subst (λ (k : ℕ). Gaps k cs (take (length w - 0) vs)) e gs);
         entries = subst (λ (k : ℕ). Filled (entry m cs 0) k ls) e (filled_same (weighted_lower t w i) (entry m cs 0) (length w) ls (entry_none m cs) c.weigh.ensures.lowers);
-        order-long = c.rank.auto.order;
-        entries-long = c.weigh.auto.lowers;
+        order_long = c.rank.auto.order;
+        entries_long = c.weigh.auto.lowers;
       };
       slot = refl;
       bound = refl;

@@ -10,14 +10,14 @@ use Rattle.engine.proofs.Fills.{filled_next, filled_all, filled_entries}
 use Rattle.engine.proofs.steps.advance.Goals as goal
 
 -- the entries with the weighted distance of the channel of the next place, at as many channels as there are weights
-entered : (t : Tables) (w : List ℕ) (x : Candidate) (k d v : ℕ) → Sound t w x → x.decreases < t.channels → t.channels ≤ 8 → length w ≡ t.channels → k ≡ get_or x.order x.decreases 0
-    → d ≡ t.dist x.slot k → v ≡ get_or w k 0 * d → v ≤ 16711425 → Filled (entry t.channels (channels_of t w x.slot) (x.decreases + 1)) (length w) (set x.entries k v)
+entered : (t : Tables) (w : List ℕ) (x : Candidate) (k d v : ℕ) → Sound t w x → x.measured < t.channels → t.channels ≤ 8 → length w ≡ t.channels → k ≡ get_or x.order x.measured 0
+    → d ≡ t.dist x.slot k → v ≡ get_or w k 0 * d → v ≤ 16711425 → Filled (entry t.channels (channels_of t w x.slot) (x.measured + 1)) (length w) (set x.entries k v)
 entered t w x k d v s more few e kn dn vn small =
     let m = t.channels in
     let cs : Channels = channels_of t w x.slot in
-    let o = s.order x.decreases more in
-    subst (λ (n : ℕ). Filled (entry m cs (x.decreases + 1)) n (set x.entries k v)) (sym e)
-    (filled_next m cs x.decreases (x.decreases + 1) k v x.entries (omega (arith, s.entries_long)) (omega (arith, o.0)) (ap (place m cs) kn ∙ o.1) (omega arith) (vn ∙ ap (λ (y : ℕ). get_or w k 0 * y) dn) small s.entries)
+    let o = s.order x.measured more in
+    subst (λ (n : ℕ). Filled (entry m cs (x.measured + 1)) n (set x.entries k v)) (sym e)
+    (filled_next m cs x.measured (x.measured + 1) k v x.entries (omega (arith, s.entries_long)) (omega (arith, o.0)) (ap (place m cs) kn ∙ o.1) (omega arith) (vn ∙ ap (λ (y : ℕ). get_or w k 0 * y) dn) small s.entries)
 
 pub combine-bound-requires : goal.combine-bound-requires
 combine-bound-requires g c =
@@ -29,7 +29,7 @@ combine-bound-requires g c =
     let v = c.scale in
     let f = entered t w x k.result c.distance-distance.result v.result s c.requires.more c.requires.weighable.few c.requires.weighable.weighted k.ensures c.distance-distance.ensures.value v.ensures.value v.ensures.small in
     let long : length (set x.entries k.result v.result) ≡ 8 = length-set x.entries k.result v.result ∙ s.entries_long in
-    filled_entries (entry t.channels (channels_of t w x.slot) (x.decreases + 1)) (length w) (set x.entries k.result v.result) (omega arith) (omega arith) (omega arith) f
+    filled_entries (entry t.channels (channels_of t w x.slot) (x.measured + 1)) (length w) (set x.entries k.result v.result) (omega arith) (omega arith) (omega arith) f
 
 pub returns : goal.returns
 returns g c =
@@ -42,14 +42,14 @@ returns g c =
     let v = c.scale in
     let d = c.distance-distance in
     let e = c.requires.weighable.weighted in
-    let h : ℕ → ℕ = entry t.channels (channels_of t w x.slot) (x.decreases + 1) in
+    let h : ℕ → ℕ = entry t.channels (channels_of t w x.slot) (x.measured + 1) in
     let es = set x.entries k.result v.result in
     let f = entered t w x k.result d.result v.result s c.requires.more c.requires.weighable.few e k.ensures d.ensures.value v.ensures.value v.ensures.small in
     let long : length es ≡ 8 = length-set x.entries k.result v.result ∙ s.entries_long in
     record {
       next = record {
         coherent = record {
-          sound = record { slot = s.slot; number = s.number; within = omega (arith, c.requires.more); order = s.order; entries = subst (λ (n : ℕ). Filled h n es) e f; order-long = s.order_long; entries-long = long };
+          sound = record { slot = s.slot; number = s.number; within = omega (arith, c.requires.more); order = s.order; entries = subst (λ (n : ℕ). Filled h n es) e f; order_long = s.order_long; entries_long = long };
           bound = c.combine-bound.ensures ∙ ap (g.A.Aggregate.meaning c.args.aggregate.now) (filled_all h (length w) es (omega arith) f ∙ ap (λ (n : ℕ). map h (range_with_len 0 n)) e);
         };
         slot = refl;

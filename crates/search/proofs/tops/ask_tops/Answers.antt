@@ -22,4 +22,4 @@ loop-c-preserved g c =
     )
 
 pub returns : goal.returns
-returns g c = record { long = c.loop-c.invariant.0; in-channel = λ j h. c.loop-c.invariant.1 j (omega arith) }
+returns g c = record { long = c.loop-c.invariant.0; in_channel = λ j h. c.loop-c.invariant.1 j (omega arith) }
