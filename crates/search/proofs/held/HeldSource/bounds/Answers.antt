@@ -13,7 +13,7 @@ bounds-requires g c =
 
 pub returns : goal.returns
 returns g c =
-    let ms = g.S.ChannelSet.models c.args.-meter.now in
+    let ms = g.S.ChannelSet.models c.args._meter.now in
     let h = c.args.self.now in
     let i = c.args.c in
     let n = c.pivots_in-pivots.result in
