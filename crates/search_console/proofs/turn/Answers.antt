@@ -19,7 +19,7 @@ returns-in-Err g c = record {
   turn = (
     line (codes "?") (number c.in-Err.refusal),
     (refl, c.in-Err.ensures.next.1, unread c.in-Err.refusal c.in-Err.ensures.next.0),
-    c.in_ok-print_line.ensures ∙ ap (λ (n : ℕ). string_bytes c.args.out.now ++ line (codes "?") n) c.number.ensures.value,
+    c.in_ok-print_line-in-Err.ensures ∙ ap (λ (n : ℕ). string_bytes c.args.out.now ++ line (codes "?") n) c.number.ensures.value,
   );
 }
 
