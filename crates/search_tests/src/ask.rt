@@ -5,6 +5,7 @@ use index::pivot_index::PivotIndex;
 use metric::channels::ChannelSet;
 use queue::rank::Upper;
 use search::{Query, nearest};
+use std::process::Abort;
 use std::test::*;
 
 /// The most patches that an index of these tests holds.
@@ -43,10 +44,10 @@ pub struct Told {
 }
 
 /// Hits beyond those named are as they began.
-pub fn check_untouched(hits: &[Neighbor], named: u16) -> Result<(), Fail> {
+pub fn check_untouched(rt: &impl Abort, hits: &[Neighbor], named: u16) -> Result<(), Fail> {
     for hit in hits.iter().skip(named as usize) {
-        assert_eq!(hit.accession, UNTOUCHED.accession);
-        assert_eq!(hit.distance, UNTOUCHED.distance);
+        assert_eq!(rt; hit.accession, UNTOUCHED.accession);
+        assert_eq!(rt; hit.distance, UNTOUCHED.distance);
     }
     Ok(())
 }
@@ -62,14 +63,15 @@ fn alike(a: &Candidate, b: &Candidate) -> bool {
 
 /// All scratch is as said.
 pub fn check_scratch(
+    rt: &impl Abort,
     candidates: &[Candidate],
     uppers: &[Upper],
     candidate: &Candidate,
     upper: u32,
 ) -> Result<(), Fail> {
     for (x, y) in candidates.iter().zip(uppers) {
-        assert!(alike(x, candidate));
-        assert_eq!(y.0, upper);
+        assert!(rt; alike(x, candidate));
+        assert_eq!(rt; y.0, upper);
     }
     Ok(())
 }
@@ -77,6 +79,7 @@ pub fn check_scratch(
 /// Asks an index, and checks what every answer keeps: at most k named, at most the budget measured, hits beyond those named untouched,
 /// scratch at zeros.
 pub fn ask<S: ChannelSet>(
+    rt: &impl Abort,
     index: &mut PivotIndex<S>,
     store: &[u8],
     query: &Query<Choice>,
@@ -94,9 +97,9 @@ pub fn ask<S: ChannelSet>(
         &mut candidates,
         &mut uppers,
     )?;
-    assert!(answer.named <= query.k);
-    assert!(answer.measured <= budget);
-    check_untouched(&hits, answer.named)?;
-    check_scratch(&candidates, &uppers, &BLANK, 0)?;
+    assert!(rt; answer.named <= query.k);
+    assert!(rt; answer.measured <= budget);
+    check_untouched(rt, &hits, answer.named)?;
+    check_scratch(rt, &candidates, &uppers, &BLANK, 0)?;
     Ok(Told { answer, hits })
 }

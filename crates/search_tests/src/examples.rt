@@ -156,7 +156,7 @@ fn work(rt: &impl Abort, example: &Example) -> Result<(), Fail> {
         k: example.k,
         radius: example.radius,
     };
-    let told = ask(&mut index, &store, &query, example.budget)?;
+    let told = ask(rt, &mut index, &store, &query, example.budget)?;
     check_hits(rt, &told, &example.hits, example.named)?;
     assert_eq!(rt; told.answer.complete, example.complete);
     assert_eq!(rt; told.answer.measured, example.measured);
@@ -186,7 +186,7 @@ fn equal_patches_go_by_their_number(rt: HostRuntime) -> Result<(), Fail> {
     let mut index = PivotIndex::new(two(0), 3, &mut store)?;
     index.insert(&mut store, 7, &[12, 0x01])?;
     index.insert(&mut store, 3, &[12, 0x01])?;
-    let told = ask(&mut index, &store, &NEAREST, 9)?;
+    let told = ask(&rt, &mut index, &store, &NEAREST, 9)?;
     assert!(rt; told.answer.complete);
     assert_eq!(rt; told.answer.measured, 2);
     check_hits(&rt, &told, &[(3, 0)], 1)
@@ -196,7 +196,7 @@ fn equal_patches_go_by_their_number(rt: HostRuntime) -> Result<(), Fail> {
 fn an_empty_index_has_nothing_to_measure(rt: HostRuntime) -> Result<(), Fail> {
     let mut store = [255u8; STORE];
     let mut index = PivotIndex::new(two(0), 3, &mut store)?;
-    let told = ask(&mut index, &store, &NEAREST, 0)?;
+    let told = ask(&rt, &mut index, &store, &NEAREST, 0)?;
     assert!(rt; told.answer.complete);
     assert_eq!(rt;
         (

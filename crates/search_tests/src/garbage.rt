@@ -5,9 +5,14 @@ use crate::scan::first_of;
 use crate::sets::{Four, four};
 use crate::supplier::Supplier;
 use search::Query;
+use std::process::Abort;
 use std::test::*;
 
-fn ask_drawn(supplier: &mut Supplier<Four>, chance: &mut Chance) -> Result<(), Fail> {
+fn ask_drawn(
+    rt: &impl Abort,
+    supplier: &mut Supplier<Four>,
+    chance: &mut Chance,
+) -> Result<(), Fail> {
     let drawn = chance.question();
     let query = Query {
         rows: first_of(&drawn.rows, 12),
@@ -17,6 +22,7 @@ fn ask_drawn(supplier: &mut Supplier<Four>, chance: &mut Chance) -> Result<(), F
         radius: drawn.radius,
     };
     ask(
+        rt,
         &mut supplier.index,
         &supplier.store,
         &query,
@@ -25,10 +31,14 @@ fn ask_drawn(supplier: &mut Supplier<Four>, chance: &mut Chance) -> Result<(), F
     Ok(())
 }
 
-fn ask_often(supplier: &mut Supplier<Four>, chance: &mut Chance) -> Result<(), Fail> {
+fn ask_often(
+    rt: &impl Abort,
+    supplier: &mut Supplier<Four>,
+    chance: &mut Chance,
+) -> Result<(), Fail> {
     for _ in 0..8 {
         supplier.scramble(chance);
-        ask_drawn(supplier, chance)?;
+        ask_drawn(rt, supplier, chance)?;
     }
     Ok(())
 }
@@ -39,8 +49,8 @@ fn any_bytes_are_searched(rt: HostRuntime) -> Result<(), Fail> {
     for _ in 0..32 {
         let mut held = Vec::new(rt.alloc());
         let mut supplier = Supplier::new(four(3, 1), 12)?;
-        supplier.change_often(&mut held, &mut chance, 100)?;
-        ask_often(&mut supplier, &mut chance)?;
+        supplier.change_often(&rt, &mut held, &mut chance, 100)?;
+        ask_often(&rt, &mut supplier, &mut chance)?;
     }
     Ok(())
 }

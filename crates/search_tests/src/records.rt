@@ -74,22 +74,28 @@ impl Rows {
     }
 
     // A pair that is recorded is the query's row with a pivot's, or with a patch's: whether it is with a patch's.
-    fn is_measured(self, pivots: &[u8], x: u8, y: u8) -> Result<bool, Fail> {
+    fn is_measured(self, rt: &impl Abort, pivots: &[u8], x: u8, y: u8) -> Result<bool, Fail> {
         let query = self.row(QUERY);
-        assert!(x == query || y == query);
+        assert!(rt; x == query || y == query);
         let other = if x == query { y } else { x };
         if self.holds(pivots, other) {
             return Ok(false);
         }
-        assert!(self.holds(&PATCHES, other));
+        assert!(rt; self.holds(&PATCHES, other));
         Ok(true)
     }
 
     // How many pairs with x first are of the query and a patch.
-    fn measured_from(self, recorder: &Recorder, pivots: &[u8], x: u8) -> Result<u32, Fail> {
+    fn measured_from(
+        self,
+        rt: &impl Abort,
+        recorder: &Recorder,
+        pivots: &[u8],
+        x: u8,
+    ) -> Result<u32, Fail> {
         let mut n: u32 = 0;
         for y in 0..=255 {
-            if recorder.was_asked(x, y) && self.is_measured(pivots, x, y)? {
+            if recorder.was_asked(x, y) && self.is_measured(rt, pivots, x, y)? {
                 n = n.wrapping_add(1);
             }
         }
@@ -97,10 +103,10 @@ impl Rows {
     }
 
     // How many pairs are of the query and a patch.
-    fn measured(self, recorder: &Recorder, pivots: &[u8]) -> Result<u32, Fail> {
+    fn measured(self, rt: &impl Abort, recorder: &Recorder, pivots: &[u8]) -> Result<u32, Fail> {
         let mut n: u32 = 0;
         for x in 0..=255 {
-            n = n.wrapping_add(self.measured_from(recorder, pivots, x)?);
+            n = n.wrapping_add(self.measured_from(rt, recorder, pivots, x)?);
         }
         Ok(n)
     }
@@ -122,9 +128,9 @@ fn check_records(
         k: 3,
         radius: 1000,
     };
-    let told = ask(index, store, &query, budget)?;
-    let first = Rows { flipped: false }.measured(&index.set.first.metric, &PIVOTS[0..1])?;
-    let second = Rows { flipped: true }.measured(&index.set.second.metric, &PIVOTS)?;
+    let told = ask(rt, index, store, &query, budget)?;
+    let first = Rows { flipped: false }.measured(rt, &index.set.first.metric, &PIVOTS[0..1])?;
+    let second = Rows { flipped: true }.measured(rt, &index.set.second.metric, &PIVOTS)?;
     assert_eq!(rt; first.wrapping_add(second), told.answer.measured);
     Ok(())
 }

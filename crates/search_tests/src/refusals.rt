@@ -164,8 +164,8 @@ fn check_refused(
         Some(call.refusal)
     );
     assert_eq!(rt; index.counts.held, 3);
-    check_untouched(&hits, 0)?;
-    check_scratch(&candidates, &uppers, &USED, 7)
+    check_untouched(rt, &hits, 0)?;
+    check_scratch(rt, &candidates, &uppers, &USED, 7)
 }
 
 #[test]

@@ -6,6 +6,7 @@ use index::pivot_index::PivotIndex;
 use metric::channels::ChannelSet;
 use refusal::Refusal;
 use std::alloc::AllocError;
+use std::process::Abort;
 use std::test::*;
 
 /// Enough for 64 patches of 8 channels and 32 bytes.
@@ -99,6 +100,7 @@ impl<S: ChannelSet + Drop> Supplier<S> {
     /// Drawn calls, with a list of what is then held.
     pub fn change_often(
         &mut self,
+        rt: &impl Abort,
         held: &mut Vec<Patch>,
         chance: &mut Chance,
         times: u32,
@@ -106,7 +108,7 @@ impl<S: ChannelSet + Drop> Supplier<S> {
         for _ in 0..times {
             self.change(held, chance)?;
         }
-        assert_eq!(self.index.counts.held as usize, held.len());
+        assert_eq!(rt; self.index.counts.held as usize, held.len());
         Ok(())
     }
 
