@@ -1,8 +1,8 @@
 -- Folds over entries.
-use Rattle.std.specs.Prelude.{◌≡◌, ℕ, zero, suc, ◌+◌, ◌<◌, ◌≤◌, min, max, List, [], ◌∷◌, length, take, fold, slice_index, refl}
-use Rattle.std.proofs.Common.{sym, ap, ◌∙◌, not-suc-le-zero, arith, take_all}
+use Rattle.std.specs.Prelude.{◌≡◌, ℕ, suc, ◌+◌, ◌<◌, ◌≤◌, min, max, List, [], ◌∷◌, length, take, fold, slice_index}
+use Rattle.std.proofs.Common.{arith, take_all}
 use Rattle.std.proofs.lemmas.List.Sums.{fold_more}
-use Rattle.aggregate.specs.Aggregates.{Entries, Raised, LawfulAggregate, total, greatest, smallest}
+use Rattle.aggregate.specs.Aggregates.{Raised, LawfulAggregate, total, greatest, smallest}
 
 raised_rest : (x y : ℕ) (xs ys : List ℕ) → Raised (x ∷ xs) (y ∷ ys) → Raised xs ys
 raised_rest x y xs ys r = record { long = omega (arith, r.long); up = λ k. r.up (suc k) }

@@ -1,13 +1,12 @@
 -- Two promises to one question agree.
-use Rattle.std.proofs.Common.{◌≡◌, ℕ, ◌≤◌, List, length, Ok, Err, Result, sym, refl, ◌∙◌}
+use Rattle.std.proofs.Common.{ℕ, ◌≤◌, List, length, Ok, Err, Result, sym, refl, ◌∙◌}
 use Rattle.metric.specs.Channels.{Asked, AllLawful}
 use Rattle.aggregate.specs.Aggregates.{LawfulAggregate}
 use Rattle.refusal.specs.declared.Refusal.{Refusal}
 use Rattle.refine.specs.Questions.{Question}
-use Rattle.index.specs.History.{Call}
 use Rattle.engine.specs.declared.records.Answer.{Answer}
 use Rattle.engine.specs.declared.records.Neighbor.{Neighbor}
-use Rattle.promise.specs.Promise.{Promise, contents, reply, Other}
+use Rattle.promise.specs.Promise.{contents, reply, Other}
 use Rattle.search.specs.Promised.{Promised}
 use Rattle.agreement.specs.Agreements.{Found, Agree}
 

@@ -1,9 +1,9 @@
 -- When two indexes that are asked the same question agree.
-use Rattle.std.specs.Prelude.{◌≡◌, ℕ, ◌≤◌, true, List, Ok, Err, Result}
+use Rattle.std.specs.Prelude.{◌≡◌, ℕ, true, List, Ok, Err, Result}
 use Rattle.std.specs.List.Sorted.{IsPermutation}
 use Rattle.metric.specs.Model.{Model}
 use Rattle.refusal.specs.declared.Refusal.{Refusal}
-use Rattle.refine.specs.Questions.{Question, Alike, scan}
+use Rattle.refine.specs.Questions.{Question, Alike}
 use Rattle.refine.specs.Theorems.{OneBegins}
 use Rattle.index.specs.declared.counts.Counts.{Counts}
 use Rattle.index.specs.History.{Call, Holds, held}

@@ -1,13 +1,12 @@
 -- Commands in front of an input.
-use Rattle.std.proofs.Common.{◌≡◌, ℕ, ◌+◌, ◌*◌, ◌/◌, ◌%◌, ◌<◌, ◌≤◌, cond, eqb, ltb, List, [], ◌∷◌, ◌++◌, length, get_or, take, drop, Some, None, Ok, Err, Option, Result, unwrap_or, sym, refl, ap, ◌∙◌, subst, append_assoc, arith, length-append, le-ltb}
+use Rattle.std.proofs.Common.{◌≡◌, ℕ, ◌+◌, ◌*◌, ◌/◌, ◌%◌, ◌<◌, ◌≤◌, cond, eqb, List, [], ◌∷◌, ◌++◌, length, get_or, take, drop, Some, None, Ok, Err, Option, Result, unwrap_or, sym, refl, ap, ◌∙◌, subst, append_assoc, arith, length-append, le-ltb}
 use lib.Seq.{take-append_seam, drop-append_seam}
 use Rattle.std.specs.Result.{result_ok}
 use Rattle.big_endian.specs.Numbers.{be16, be32}
 use Rattle.refusal.specs.declared.Refusal.{Refusal}
-use Rattle.refusal.specs.declared.Refusal.TheVariants.{UnknownCommand, CutShort}
 use Rattle.command.specs.declared.format.Format.{Format}
 use Rattle.command.specs.declared.Command.{Command}
-use Rattle.command.specs.Commands.{Instruction, insert, remove, add_pivot, remove_pivot, nearest, encode, Fits, meant, cut, read_refusal, Next, Gives, Exact}
+use Rattle.command.specs.Commands.{Instruction, insert, remove, add_pivot, remove_pivot, nearest, encode, Fits, meant, cut, read_refusal, Next, Exact}
 
 -- what holds of an option holds of the value that `ok_or` and `?` took out of it
 pub came : {V : Type 0} (P : Option V → Type 0) (o : Option V) (r : Result V Refusal) (v : V) → o ≡ result_ok r → r ≡ Ok v → P o → P (Some v)

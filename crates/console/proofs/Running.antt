@@ -1,10 +1,10 @@
 -- A run so far.
-use Rattle.std.proofs.Common.{◌≡◌, ℕ, ◌+◌, ◌<◌, Bool, true, false, cond, List, [], ◌∷◌, ◌++◌, length, sym, refl, ap, ◌∙◌, subst, append_assoc, append-nil, arith, length-append}
+use Rattle.std.proofs.Common.{◌≡◌, ℕ, ◌+◌, ◌<◌, Bool, true, false, cond, List, [], ◌++◌, length, sym, ap, subst, append_assoc, arith, length-append}
 use Rattle.metric.specs.Model.{Model}
 use Rattle.command.specs.declared.format.Format.{Format}
 use Rattle.command.specs.Commands.{Instruction, insert, remove, add_pivot, remove_pivot, nearest, encode}
 use Rattle.index.specs.History.{Written}
-use Rattle.console.specs.Sessions.{Session, over, next, Turn}
+use Rattle.console.specs.Sessions.{Session, next, Turn}
 
 -- from w over the input a run has printed some lines and come to w' with `rest` still to read: it may go on, or has ended
 abbrev pub Sofar : List Model → Format → Written → (input printed : List ℕ) → Written → (rest : List ℕ) → Bool → Type 0

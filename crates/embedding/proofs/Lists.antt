@@ -1,5 +1,5 @@
 -- Lists of records, and what a search leaves of its hits.
-use Rattle.std.proofs.Common.{◌≡◌, ℕ, zero, suc, ◌≤◌, List, [], ◌∷◌, ◌++◌, map, length, get_or, drop, set, replicate, IfOk, Ok, Err, Result, refl, ap, arith, length-append, length-drop}
+use Rattle.std.proofs.Common.{◌≡◌, ℕ, zero, suc, ◌≤◌, List, [], ◌∷◌, length, get_or, set, replicate, IfOk, Ok, Err, Result, ap, arith, length-append, length-drop}
 use lib.ListN.{length-map}
 use Rattle.metric.specs.Channels.{Asked}
 use Rattle.refusal.specs.declared.Refusal.{Refusal}

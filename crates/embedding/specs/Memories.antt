@@ -1,5 +1,5 @@
 -- A memory: the counts of an index, then its store.
-use Rattle.std.specs.Prelude.{◌≡◌, ℕ, ◌≤◌, List}
+use Rattle.std.specs.Prelude.{ℕ, ◌≤◌}
 use Rattle.index.specs.declared.counts.Counts.{Counts}
 use Rattle.index.specs.Limits.{pivots_in}
 

@@ -1,6 +1,5 @@
 -- One slot more in each of the two passes, and the threshold that the first one gives.
 use Rattle.std.proofs.Common.{◌≡◌, ℕ, ◌+◌, ◌-◌, ◌<◌, ◌≤◌, Bool, true, false, cond, ◌≢◌, ◌⊎◌, List, [], ◌∷◌, ◌++◌, map, length, get_or, take, set, Some, None, filter, sym, refl, ap, ◌∙◌, subst, ⊎_elim, arith, below_more, MatchOption}
-use mathlib.Core.Option.{none}
 use Rattle.std.specs.List.{range_with_len}
 use Rattle.std.specs.List.Sorted.{IsPermutation}
 use Rattle.std.specs.declared.option.Option as rust
@@ -15,7 +14,7 @@ use Rattle.queue.specs.declared.rank.Upper.{Upper}
 use Rattle.queue.proofs.KLeast.{none_kept}
 use Rattle.queue.proofs.Shuffles.{shuffled_map}
 use Rattle.queue.proofs.Sifts.{none_heaped}
-use Rattle.refine.specs.Chains.{Family, kth_least, threshold}
+use Rattle.refine.specs.Chains.{Family, kth_least}
 use Rattle.refine.specs.Steps as steps
 use Rattle.refine.proofs.Kth.{kth_by_counts}
 use Rattle.engine.specs.declared.records.Candidate.{Candidate}

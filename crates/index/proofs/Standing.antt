@@ -15,7 +15,7 @@ use Rattle.index.specs.History.{Call, insert, remove, add_pivot, remove_pivot, n
 use Rattle.index.specs.Image.{counted, Kept}
 use Rattle.index.specs.Layouts.{layout_of, number_at}
 use Rattle.index.specs.Limits.{pivots_in, with_held, with_pivots}
-use Rattle.index.proofs.Fields.{Field, number, rows, Valid, view}
+use Rattle.index.proofs.Fields.{Field, number, Valid, view}
 use Rattle.index.proofs.Turning.{Became}
 use Rattle.index.proofs.Shown.{shown, number_held, closed_length}
 use Rattle.index.proofs.Counting.{pivots_counted, counted_pivots}

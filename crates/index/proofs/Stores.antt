@@ -1,5 +1,5 @@
 -- The loops of src/steps.rt, a turn each.
-use Rattle.std.proofs.Common.{◌≡◌, ℕ, ◌+◌, ◌-◌, ◌<◌, ◌≤◌, ◌⊎◌, List, length, take, drop, sym, ap, ◌∙◌, subst, inl, inr, ⊎_elim, arith}
+use Rattle.std.proofs.Common.{◌≡◌, ℕ, ◌+◌, ◌-◌, ◌<◌, ◌≤◌, List, length, take, drop, sym, ap, ◌∙◌, subst, inl, inr, ⊎_elim, arith}
 use Rattle.metric.specs.Model.{Model}
 use Rattle.metric.specs.Channels.{Asked, AddsAt, at}
 use Rattle.big_endian.specs.Numbers.{be16}

@@ -8,7 +8,7 @@ use Rattle.patch.specs.Patches.{few, offset, patch_width}
 use Rattle.refusal.specs.declared.Refusal.{Refusal}
 use Rattle.refusal.specs.declared.Refusal.TheVariants.{WrongRowsLength, AlreadyHeld, Full, NotHeld, NoSuchChannel, PivotsFull, NoSuchPivot, BadStore, TooManyChannels}
 use Rattle.index.specs.declared.counts.Counts.{Counts}
-use Rattle.index.specs.Bytes.{put, part}
+use Rattle.index.specs.Bytes.{put}
 use Rattle.index.specs.Layouts.{layout_of, number_at, row_at, pivot_at}
 use Rattle.index.specs.Limits.{pivots_in, with_held, with_pivots}
 use Rattle.index.specs.Steps.{each, first_from, moved, slot_row, store_channel, store_own, free_distance, shifted_slot}

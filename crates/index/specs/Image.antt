@@ -1,12 +1,11 @@
 -- The image of what is held: which bytes a store has, and what an index counts, where the patches ps and the pivots pv are held.
-use Rattle.std.specs.Prelude.{◌≡◌, ℕ, zero, suc, ◌<◌, ◌≤◌, cond, ◌&&◌, List, [], ◌∷◌, ◌++◌, map, length, get_or, take, drop, replicate, nat_lt, slice_index_or}
+use Rattle.std.specs.Prelude.{◌≡◌, ℕ, zero, suc, ◌<◌, ◌≤◌, cond, ◌&&◌, List, [], ◌++◌, map, length, get_or, take, drop, replicate, nat_lt, slice_index_or}
 use Rattle.std.specs.List.{range_with_len}
 use Rattle.big_endian.specs.Numbers.{be16}
 use Rattle.metric.specs.Model.{Model, Row}
 use Rattle.metric.specs.Channels.{at}
 use Rattle.patch.specs.Patches.{Patch, patch_width, row}
 use Rattle.index.specs.declared.counts.Counts.{Counts}
-use Rattle.index.specs.declared.counts.ChannelRecord.{ChannelRecord}
 use Rattle.index.specs.Layouts.{layout_of}
 use Rattle.index.specs.History.{no_patch}
 

@@ -1,8 +1,7 @@
 -- Where the parts of the store lie: accession numbers, rows, pivot rows, distances to pivots.
 use Rattle.std.specs.Prelude.{◌≡◌, ℕ, ◌+◌, ◌*◌, ◌≤◌, List, length}
 use Rattle.metric.specs.Model.{Model}
-use Rattle.metric.specs.Channels.{at}
-use Rattle.patch.specs.Patches.{offset, patch_width}
+use Rattle.patch.specs.Patches.{patch_width}
 use Rattle.index.specs.declared.layout.Layout.{Layout}
 
 -- the layout of a store for the channels ms and a capacity

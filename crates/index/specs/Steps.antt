@@ -1,5 +1,5 @@
 -- The steps that the calls are made of, on the bytes of the store.
-use Rattle.std.specs.Prelude.{ℕ, zero, suc, ◌+◌, ◌*◌, cond, List, length, replicate, Some, None, Option, ◌==◌}
+use Rattle.std.specs.Prelude.{ℕ, zero, suc, ◌+◌, ◌*◌, cond, List, replicate, Some, None, Option, ◌==◌}
 use Rattle.big_endian.specs.Numbers.{be16}
 use Rattle.metric.specs.Model.{Model}
 use Rattle.metric.specs.Channels.{at}

@@ -1,5 +1,5 @@
 -- What a set of channels means: the models of its metrics, in order.
-use Rattle.std.specs.Prelude.{◌≡◌, ℕ, ◌+◌, ◌-◌, ◌^◌, ◌<◌, ◌≤◌, min, ◌⊎◌, List, length, slice_index_or}
+use Rattle.std.specs.Prelude.{◌≡◌, ℕ, ◌+◌, ◌-◌, ◌^◌, ◌<◌, min, ◌⊎◌, List, length, slice_index_or}
 use Rattle.metric.specs.Model.{Model, Lawful}
 
 -- how many channels there are, as far as a usize can say

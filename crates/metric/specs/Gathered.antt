@@ -1,7 +1,7 @@
 -- A distance of bytes gathered over two rows: what a loop adds, and the laws that it keeps.
-use Rattle.std.specs.Prelude.{◌≡◌, ℕ, zero, suc, ◌+◌, ◌-◌, ◌*◌, ◌<◌, ◌≤◌, max, List, [], ◌∷◌, length, take, slice_index, refl}
+use Rattle.std.specs.Prelude.{◌≡◌, ℕ, zero, suc, ◌+◌, ◌<◌, ◌≤◌, max, List, [], ◌∷◌, length, take, slice_index, refl}
 use Rattle.std.proofs.Common.{sym, ap, ◌∙◌, not-suc-le-zero, le_of_suc-le-suc, le_trans, add-one, arith, take_all}
-use Rattle.metric.specs.Model.{Model, Row, Lawful}
+use Rattle.metric.specs.Model.{Lawful}
 use Rattle.metric.specs.Distances.{across}
 
 -- op gathers: it is a monoid's, rises with its entries, and gathers two ways by no more than both

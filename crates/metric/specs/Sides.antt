@@ -1,5 +1,5 @@
 -- Where a channel of two sets side by side lies.
-use Rattle.std.specs.Prelude.{◌≡◌, ℕ, ◌+◌, ◌<◌, ◌≤◌, List}
+use Rattle.std.specs.Prelude.{◌≡◌, ℕ, ◌+◌, ◌<◌, List}
 use Rattle.metric.specs.Model.{Model}
 use Rattle.metric.specs.Channels.{count}
 use Rattle.metric.specs.declared.channels.Side.{Side}

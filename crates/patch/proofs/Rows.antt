@@ -1,5 +1,5 @@
 -- The rows that code cuts out of patches.
-use Rattle.std.proofs.Common.{◌≡◌, ℕ, zero, suc, ◌+◌, ◌-◌, ◌*◌, ◌<◌, ◌≤◌, List, [], ◌∷◌, length, get_or, take, drop, sym, refl, ap, ◌∙◌, arith, length-drop, length-take}
+use Rattle.std.proofs.Common.{◌≡◌, ℕ, zero, suc, ◌+◌, ◌-◌, ◌<◌, ◌≤◌, List, [], ◌∷◌, length, get_or, take, drop, ap, ◌∙◌, arith, length-drop, length-take}
 use Rattle.metric.specs.Model.{Model, Row}
 use Rattle.metric.specs.Channels.{at}
 use Rattle.patch.specs.Patches.{few, offset, patch_width, row}

@@ -1,9 +1,9 @@
 -- Offsets and widths of the rows of a patch.
-use Rattle.std.proofs.Common.{◌≡◌, ℕ, ◌+◌, ◌*◌, ◌<◌, ◌≤◌, min, ◌⊎◌, List, length, get_or, take, sum_by, sym, refl, ap, ◌∙◌, inl, inr, ⊎_elim, arith}
+use Rattle.std.proofs.Common.{◌≡◌, ℕ, ◌+◌, ◌*◌, ◌<◌, ◌≤◌, min, List, length, sum_by, sym, ap, ◌∙◌, ⊎_elim, arith}
 use Rattle.std.proofs.lemmas.List.{length-take, get_or-take, take_all}
 use Rattle.std.proofs.lemmas.List.Sums.{sum_by_more, sum_by-take-le}
 use Rattle.std.proofs.lemmas.Bool.{cases_lt}
-use Rattle.metric.specs.Model.{Model, Lawful}
+use Rattle.metric.specs.Model.{Model}
 use Rattle.metric.specs.Channels.{at, no_model, AllLawful}
 use Rattle.patch.specs.Patches.{few, width_of, offset, patch_width}
 

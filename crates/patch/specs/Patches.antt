@@ -1,5 +1,5 @@
 -- Patches: rows joined in channel order, and the weighted distances between two of them.
-use Rattle.std.specs.Prelude.{◌≡◌, ℕ, ◌+◌, ◌*◌, ◌<◌, ◌⊎◌, List, map, length, take, drop, sum_by, slice_index}
+use Rattle.std.specs.Prelude.{◌≡◌, ℕ, ◌*◌, ◌<◌, ◌⊎◌, List, map, length, take, drop, sum_by, slice_index}
 use Rattle.std.specs.List.{range_with_len}
 use Rattle.metric.specs.Model.{Model}
 use Rattle.metric.specs.Channels.{Asked, at}

@@ -1,5 +1,5 @@
 -- What one number more does to the k least so far, and what the first of them is.
-use Rattle.std.proofs.Common.{◌≡◌, ℕ, zero, suc, ◌+◌, ◌-◌, ◌<◌, ◌≤◌, min, Bool, true, false, cond, ltb, leb, ◌⊎◌, List, [], ◌∷◌, ◌++◌, map, length, get_or, take, drop, count_by, sym, refl, ap, ◌∙◌, subst, ⊎_elim, not-suc-le-zero, arith, le-ltb, le-leb}
+use Rattle.std.proofs.Common.{◌≡◌, ℕ, ◌+◌, ◌-◌, ◌<◌, ◌≤◌, min, Bool, cond, ltb, leb, List, [], ◌∷◌, ◌++◌, length, get_or, take, drop, sym, refl, ap, ◌∙◌, subst, ⊎_elim, not-suc-le-zero, arith, le-ltb, le-leb}
 use Rattle.std.specs.List.Sorted.{IsPermutation, IsNonDecreasing}
 use Rattle.std.specs.List.{AllByRecursion as All}
 use Rattle.std.proofs.lemmas.Bool.Decides.{nat_tests}
@@ -9,7 +9,7 @@ use Rattle.std.proofs.ByRecursion.{All-append, All-from_get_or, All-map, All-wea
 use Rattle.std.proofs.lemmas.List.Sums.{sum_by-cons, sum_by-append, sum_by-take-drop, sum_by-take-le, count_by-le-length}
 use Rattle.std.proofs.lemmas.List.Sorted.{IsPermutation-refl, IsPermutation-sym, IsPermutation-trans, IsPermutation-cons, IsPermutation-to_front, length_permutation, sum_by-IsPermutation}
 use Rattle.queue.specs.Kinds.{Descending}
-use Rattle.queue.specs.Heaps.{Heaped, Least, Outside, Pushed, Peeked, Replaced}
+use Rattle.queue.specs.Heaps.{Heaped, Least, Outside, Pushed, Peeked}
 use Rattle.queue.specs.Selection.{below, at_most, numbers, KthLeast, Kept, Offered, Threshold, Selected}
 use Rattle.queue.specs.Steps.{Taken, Passed, Displaced, KeptAll}
 use Rattle.queue.specs.declared.rank.Upper.{Upper}

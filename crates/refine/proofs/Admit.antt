@@ -1,17 +1,15 @@
 -- A patch that is not admitted is neither in the finished list nor needed.
-use Rattle.std.proofs.Common.{◌≡◌, ℕ, zero, suc, ◌+◌, ◌-◌, ◌<◌, ◌≤◌, Bool, true, false, cond, not, ◌&&◌, List, [], ◌∷◌, ◌++◌, map, length, take, sum_by, filter, sym, refl, ap, ◌∙◌, subst, arith}
-use mathlib.Core.Option.{Option, none, some}
-use lib.ListN.{get_elem?}
+use Rattle.std.proofs.Common.{◌≡◌, ℕ, suc, ◌-◌, ◌≤◌, Bool, true, false, cond, List, [], ◌∷◌, map, take, filter, sym, refl, ap, ◌∙◌, subst, arith}
 use Rattle.std.specs.List.{ContainsAt as Has, AllByRecursion as All}
-use Rattle.std.proofs.ByRecursion.{all_kept_by, All-weaker, All-map, kept_by_passes, All-take, all-has}
+use Rattle.std.proofs.ByRecursion.{all_kept_by, All-weaker, kept_by_passes, All-take, all-has}
 use Rattle.refine.specs.Chains.{Table, EachTwo}
 use Rattle.refine.specs.Scan.{final, ranking, full_scan, finished, needed, need}
 use Rattle.refine.specs.Steps.{Candidate, start}
 use Rattle.refine.proofs.Reorders.{perm_all}
 use Rattle.refine.proofs.Lists.{adding, adding_is, perm_adding, adding_same, adding_le, adding_kept, adding_map, passing, passing_is, passing_same, passing_none, all_both, all_by, kept_swap, two_kept, two_weaker}
 use Rattle.refine.proofs.Ranks.{lt_le, Other, Ascending, rank_perm, rank_kept, rank_ascending, ascending_kept}
-use Rattle.refine.proofs.Threshold.{upto, upto_is, upto_take, upto_false, below, take_kept}
-use Rattle.refine.proofs.Run.{Rising, Apart, Closed, Tame, climbs, outside, patches, ok, due, left}
+use Rattle.refine.proofs.Threshold.{upto_is, upto_take, upto_false, below, take_kept}
+use Rattle.refine.proofs.Run.{Rising, Apart, Closed, Tame, climbs, patches, ok, due, left}
 
 module _ {A K : Type 0} (x : Table A K) where
   -- before z, within the radius, come only patches within it

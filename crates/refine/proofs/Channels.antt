@@ -1,5 +1,5 @@
 -- A distance lies between its bounds; chains from such channels rise to the aggregated distance.
-use Rattle.std.proofs.Common.{◌≡◌, ℕ, zero, suc, ◌+◌, ◌*◌, ◌<◌, ◌≤◌, Bool, true, false, cond, ltb, ◌⊎◌, List, [], ◌∷◌, map, length, get_or, sym, refl, ap, ◌∙◌, subst, ap₂, inl, inr, mul-le-mul_left, arith, ltb-true, lt-ltb}
+use Rattle.std.proofs.Common.{◌≡◌, ℕ, zero, suc, ◌+◌, ◌*◌, ◌<◌, ◌≤◌, Bool, true, false, cond, ltb, ◌⊎◌, List, [], ◌∷◌, map, get_or, sym, refl, ap, ◌∙◌, inl, inr, mul-le-mul_left, arith, ltb-true, lt-ltb}
 use Rattle.std.specs.List.{range_with_len, AllByRecursion as All}
 use Rattle.std.proofs.lemmas.Nat.{mul-le}
 use Rattle.std.proofs.lemmas.List.FromFn.{length-map-range_with_len, get_or-map-range_with_len}
@@ -7,8 +7,7 @@ use Rattle.std.proofs.ByRecursion.{All-weaker}
 use Rattle.std.proofs.lemmas.List.{get_or_past}
 use Rattle.std.proofs.lemmas.Bool.{cases_lt}
 use Rattle.aggregate.specs.Aggregates.{Entries, Raised, LawfulAggregate}
-use Rattle.refine.specs.Chains.{Family, LawfulFamily}
-use Rattle.refine.specs.Bounds.{Channel, Channels, Bracketed, place, entry, entries, dists, uppers, chained}
+use Rattle.refine.specs.Bounds.{Channel, Channels, Bracketed, place, entry, entries, dists, uppers}
 use Rattle.refine.specs.Searches.{BetweenBounds, ChannelsToChains}
 use Rattle.refine.proofs.Lists.{map_same}
 use Rattle.refine.proofs.Places.{place_lt}

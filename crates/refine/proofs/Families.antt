@@ -1,27 +1,26 @@
 -- The theorems over families: patches with identifiers, bounds and upper bounds.
-use Rattle.std.proofs.Common.{◌≡◌, ℕ, zero, suc, ◌+◌, ◌-◌, ◌*◌, ◌<◌, ◌≤◌, Bool, true, false, cond, ◌&&◌, eqb, ltb, leb, ◌⊎◌, List, [], ◌∷◌, map, length, count_by, filter, sym, refl, ap, ◌∙◌, subst, inl, inr, arith, le-ltb, ne_eqb, eqb-true, le-leb, leb-false, leb-true}
+use Rattle.std.proofs.Common.{◌≡◌, ℕ, zero, suc, ◌+◌, ◌-◌, ◌<◌, ◌≤◌, Bool, true, false, cond, ◌&&◌, leb, ◌⊎◌, List, [], ◌∷◌, map, length, filter, refl, ap, ◌∙◌, subst, inl, inr, arith, le-ltb, ne_eqb, le-leb, leb-false, leb-true}
 use mathlib.Core.List.{IsPrefix}
 use mathlib.Core.Option.{Option, none, some}
 use lib.ListN.{get_elem?}
-use borrow.Author.Tests.{eqb-false}
 use Rattle.std.specs.List.{AllByRecursion as All}
-use Rattle.std.proofs.ByRecursion.{All-weaker, All-map, All-take, all_kept_by}
-use Rattle.refine.specs.Orders.{number_first, insert_by, sorted_by}
-use Rattle.refine.specs.OrderLaws.{numbers, first_lt, first_eq, first_cases}
-use Rattle.refine.specs.Chains.{Family, Table, EachTwo, LawfulFamily, distance, table, kth_least, threshold, not_above, admitted}
+use Rattle.std.proofs.ByRecursion.{All-weaker, All-take, all_kept_by}
+use Rattle.refine.specs.Orders.{number_first, sorted_by}
+use Rattle.refine.specs.OrderLaws.{first_lt, first_eq, first_cases}
+use Rattle.refine.specs.Chains.{Family, LawfulFamily, table, threshold, not_above, admitted}
 use Rattle.refine.specs.Scan.{ranking, finished}
-use Rattle.refine.specs.Steps.{Candidate, State, Next, on, Move, Runs, begin, enough_steps, step}
-use Rattle.refine.specs.Theorems.{Outcome, FinishedNearest, LiveOrderIsFree, RunsEnd, StepsEnd, NeedIsLeast, UnadmittedIdle, rebound, given, answer, BoundsOnlyDelay, OrderIsFree}
-use Rattle.refine.proofs.Reorders.{Reordered, same, skip, swap, chain, reordered, perm_all, perm_map, perm_kept}
+use Rattle.refine.specs.Steps.{enough_steps, step}
+use Rattle.refine.specs.Theorems.{FinishedNearest, LiveOrderIsFree, RunsEnd, StepsEnd, NeedIsLeast, UnadmittedIdle, rebound, given, answer, BoundsOnlyDelay, OrderIsFree}
+use Rattle.refine.proofs.Reorders.{Reordered, reordered, perm_all, perm_map, perm_kept}
 use Rattle.refine.proofs.Lists.{adding, adding_is, perm_adding, adding_map, all_both, two_weaker, map_same, fronts, front_map}
-use Rattle.refine.proofs.Ranks.{le_refl, insert, insert_comm, insert_perm, rank_perm}
+use Rattle.refine.proofs.Ranks.{le_refl, rank_perm}
 use Rattle.refine.proofs.Threshold.{below}
 use Rattle.refine.proofs.Run.{Closed, Tame}
 use Rattle.refine.proofs.Steps.{step_moves, shrinks}
 use Rattle.refine.proofs.Nearest.{nearest, nearest_once}
 use Rattle.refine.proofs.Admit.{Admits, not_listed, not_needed}
 use Rattle.refine.proofs.Same.{runs_same, runs_shuffled}
-use Rattle.refine.proofs.Kth.{plain, upon, rank_weak, kth_upon, number_rank}
+use Rattle.refine.proofs.Kth.{plain, rank_weak, kth_upon, number_rank}
 use Rattle.refine.proofs.Main.{sep_start, outcome, runs, plan_least, finished_alike}
 
 into_kept : {A : Type 0} (p : A → Bool) (f g : A → ℕ) (l : List A) → All (λ a. f a ≤ cond (p a) (g a) 0) l → adding f l ≤ adding g (filter p l)

@@ -1,9 +1,8 @@
 -- A run over stand-ins (slots, say) is a run over what they stand for.
-use Rattle.std.proofs.Common.{◌≡◌, ℕ, suc, ◌<◌, ◌≤◌, Bool, true, false, List, [], ◌∷◌, ◌++◌, map, length, sym, refl, ap, ◌∙◌, subst, ap₂, arith}
+use Rattle.std.proofs.Common.{◌≡◌, ℕ, Bool, true, false, List, ◌∷◌, map, sym, ap, ◌∙◌, subst, ap₂, arith}
 use Rattle.std.specs.List.{AllByRecursion as All}
 use Rattle.std.proofs.lemmas.List.{length-map, map_push}
 use Rattle.std.proofs.ByRecursion.{All-map, All-weaker}
-use Rattle.std.specs.List.Sorted.{IsPermutation}
 use Rattle.refine.specs.Chains.{Table}
 use Rattle.refine.specs.Steps.{Candidate, State, on, key_now, Chosen, Move, full, dry, names, halts, measures, Runs, finishes, stops, goes}
 use Rattle.refine.specs.Theorems.{image}

@@ -1,15 +1,15 @@
 -- The k-th least of some numbers.
-use Rattle.std.proofs.Common.{◌≡◌, ℕ, zero, suc, ◌+◌, ◌-◌, ◌<◌, ◌≤◌, Bool, true, false, cond, eqb, ltb, leb, ◌⊎◌, List, [], ◌∷◌, length, count_by, sym, refl, ap, ◌∙◌, inl, inr, arith, le-ltb, lt-ltb, eqb-true, le-leb, leb-false, leb-true}
-use mathlib.Core.Option.{Option, none, some}
+use Rattle.std.proofs.Common.{◌≡◌, ℕ, zero, suc, ◌+◌, ◌-◌, ◌<◌, ◌≤◌, Bool, true, false, cond, eqb, ltb, leb, ◌⊎◌, List, [], ◌∷◌, length, refl, ap, ◌∙◌, inl, inr, arith, le-ltb, lt-ltb, eqb-true, le-leb, leb-false, leb-true}
+use mathlib.Core.Option.{none, some}
 use lib.ListN.{get_elem?}
 use borrow.Author.Tests.{eqb-false}
 use Rattle.std.specs.List.{AllByRecursion as All}
 use Rattle.std.proofs.ByRecursion.{All-weaker}
 use Rattle.std.proofs.lemmas.List.Sorted.{length_permutation}
 use Rattle.std.proofs.lemmas.Bool.{cases_order, lt-leb}
-use Rattle.refine.specs.Orders.{insert_by, sorted_by}
+use Rattle.refine.specs.Orders.{sorted_by}
 use Rattle.refine.specs.OrderLaws.{numbers}
-use Rattle.refine.specs.Chains.{Table, kth_least}
+use Rattle.refine.specs.Chains.{Table}
 use Rattle.refine.specs.Theorems.{KthByCounts}
 use Rattle.refine.proofs.Reorders.{Reordered, same, skip, swap, chain, shuffled, perm_all}
 use Rattle.refine.proofs.Lists.{adding, adding_is, perm_adding}

@@ -1,5 +1,5 @@
 -- Lists: sums and counts by recursion, each two, membership, filters, beginnings.
-use Rattle.std.proofs.Common.{◌≡◌, ℕ, zero, suc, ◌+◌, ◌-◌, ◌<◌, ◌≤◌, Bool, true, false, cond, ◌⊎◌, List, [], ◌∷◌, ◌++◌, map, length, get_or, sum_by, count_by, filter, sym, refl, ap, ◌∙◌, subst, ap₂, inl, inr, add-one, arith}
+use Rattle.std.proofs.Common.{◌≡◌, ℕ, zero, suc, ◌+◌, ◌-◌, ◌<◌, ◌≤◌, Bool, true, false, cond, ◌⊎◌, List, [], ◌∷◌, map, length, get_or, sum_by, count_by, filter, sym, refl, ap, ◌∙◌, subst, ap₂, inl, inr, add-one, arith}
 use mathlib.Core.List.{tail, map-append, IsPrefix}
 use Rattle.std.specs.List.{range_with_len, ContainsAt as Has, AllByRecursion as All}
 use Rattle.std.proofs.ByRecursion.{all_kept_by, All-weaker, All-map}

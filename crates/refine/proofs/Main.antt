@@ -1,21 +1,18 @@
 -- The theorems over tables: how runs end, and what plans cost.
-use Rattle.std.proofs.Common.{◌≡◌, ℕ, zero, suc, ◌+◌, ◌-◌, ◌*◌, ◌<◌, ◌≤◌, min, Bool, true, false, cond, not, ◌&&◌, ◌⊎◌, List, [], ◌∷◌, ◌++◌, map, length, take, filter, sym, refl, ap, ◌∙◌, subst, inl, inr, append-nil, arith}
+use Rattle.std.proofs.Common.{◌≡◌, ℕ, suc, ◌+◌, ◌*◌, ◌<◌, ◌≤◌, Bool, true, false, cond, ◌&&◌, List, [], ◌∷◌, map, length, take, filter, sym, refl, ap, ◌∙◌, append-nil, arith}
 use mathlib.Core.Bool.{false≢true}
-use mathlib.Core.List.{IsPrefix}
 use mathlib.Core.Option.{Option, none, some}
-use lib.ListN.{get_elem?}
 use Rattle.std.specs.List.{ContainsAt as Has, AllByRecursion as All}
 use Rattle.std.proofs.ByRecursion.{all_kept_by, All-weaker, All-map, kept_by_passes, All-take, all-has, has_shuffled}
-use Rattle.refine.specs.Orders.{insert_by, sorted_by}
 use Rattle.refine.specs.Chains.{Table, EachTwo}
 use Rattle.refine.specs.Scan.{final, ranking, full_scan, finished, not_after, needed, need}
-use Rattle.refine.specs.Steps.{Candidate, State, Runs, start, run}
+use Rattle.refine.specs.Steps.{State, Runs, start, run}
 use Rattle.refine.specs.Plans.{Past, Settles}
 use Rattle.refine.specs.Theorems.{Outcome}
 use Rattle.refine.proofs.Reorders.{Reordered, shuffled, perm_all}
-use Rattle.refine.proofs.Lists.{adding, adding_is, adding_le, passing, passing_le, two_kept, two_map, two_weaker, all_from_has, all_by, all_both, has_kept, fronts}
-use Rattle.refine.proofs.Ranks.{lt_le, Other, insert, rank_perm, rank_same}
-use Rattle.refine.proofs.Threshold.{upto, upto_is, has_upto, upto_first}
+use Rattle.refine.proofs.Lists.{adding, adding_le, passing, passing_le, two_kept, two_map, two_weaker, all_from_has, has_kept}
+use Rattle.refine.proofs.Ranks.{lt_le, insert, rank_perm, rank_same}
+use Rattle.refine.proofs.Threshold.{upto, has_upto, upto_first}
 use Rattle.refine.proofs.Run.{Rising, Apart, Closed, Tame, climbs, outside, patches, ok, left, Good, Sep, Ending, ends}
 use Rattle.refine.proofs.Steps.{size, run_ends}
 use Rattle.refine.proofs.Admit.{Admits, first_kept, need_is, need_adds, patches_start, scan_ascending}

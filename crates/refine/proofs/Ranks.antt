@@ -1,8 +1,7 @@
 -- The full scan: a strictly rising list, the same for each order of the patches.
-use Rattle.std.proofs.Common.{◌≡◌, ℕ, zero, suc, ◌+◌, ◌-◌, ◌<◌, ◌≤◌, Bool, true, false, cond, not, ◌&&◌, List, [], ◌∷◌, ◌++◌, map, length, take, filter, sym, refl, ap, ◌∙◌, subst, arith}
-use lib.ListN.{get_elem?}
+use Rattle.std.proofs.Common.{◌≡◌, Bool, true, false, cond, List, [], ◌∷◌, filter, sym, refl, ap, ◌∙◌, arith}
 use Rattle.std.specs.List.{AllByRecursion as All}
-use Rattle.refine.specs.Orders.{Order, insert_by, sorted_by}
+use Rattle.refine.specs.Orders.{Order, insert_by}
 use Rattle.refine.specs.Chains.{Table, EachTwo}
 use Rattle.refine.specs.Scan.{final, ranking}
 use Rattle.refine.proofs.Reorders.{Reordered, same, skip, swap, chain, perm_all, perm_two}

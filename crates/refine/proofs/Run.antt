@@ -1,14 +1,13 @@
 -- Where a run ends: by induction over its steps, from what is left to list and to measure.
-use Rattle.std.proofs.Common.{◌≡◌, ℕ, zero, suc, ◌+◌, ◌-◌, ◌<◌, ◌≤◌, Bool, true, false, cond, not, ◌&&◌, List, [], ◌∷◌, ◌++◌, map, length, take, filter, sym, refl, ap, ◌∙◌, subst, subst₂, append_assoc, append-nil, arith, length-append}
-use lib.ListN.{get_elem?}
+use Rattle.std.proofs.Common.{◌≡◌, ℕ, zero, suc, ◌+◌, ◌-◌, ◌<◌, ◌≤◌, Bool, true, false, ◌&&◌, List, [], ◌∷◌, ◌++◌, map, length, take, filter, sym, refl, ap, ◌∙◌, subst, subst₂, append_assoc, append-nil, arith, length-append}
 use Rattle.std.specs.List.{AllByRecursion as All}
 use Rattle.std.proofs.ByRecursion.{all_kept_by, All-weaker, All-map}
 use Rattle.refine.specs.Chains.{Table, EachTwo}
 use Rattle.refine.specs.Scan.{final, ranking, full_scan}
-use Rattle.refine.specs.Steps.{Candidate, State, key_now, Chosen, Move, full, dry, names, halts, measures, Runs, finishes, stops, goes}
+use Rattle.refine.specs.Steps.{Candidate, State, key_now, Chosen, full, dry, names, halts, measures, Runs, finishes, stops, goes}
 use Rattle.refine.proofs.Reorders.{Reordered, reordered, perm_all, perm_map, perm_two}
 use Rattle.refine.proofs.Lists.{adding, perm_adding, adding_same, adding_zero, passing, passing_same, passing_none, all_both, kept_none}
-use Rattle.refine.proofs.Ranks.{le_refl, le_lt, lt_le, Other, rank_perm, rank_same, insert_least}
+use Rattle.refine.proofs.Ranks.{le_refl, Other, rank_perm, rank_same, insert_least}
 use Rattle.refine.proofs.Threshold.{upto, upto_true}
 
 take_nil : {A : Type 0} (n : ℕ) → ◌≡◌ {A = List A} (take n []) []

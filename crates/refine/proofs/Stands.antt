@@ -1,14 +1,12 @@
 -- A run over slots, by the numbers found there, is a run over the patches that lie there.
-use Rattle.std.proofs.Common.{◌≡◌, ℕ, suc, ◌-◌, ◌<◌, ◌≤◌, Bool, true, false, cond, ◌&&◌, leb, List, [], ◌∷◌, ◌++◌, map, length, filter, sym, refl, ap, ◌∙◌, subst, ap₂}
-use mathlib.Core.Option.{Option, none, some}
-use lib.ListN.{get_elem?}
+use Rattle.std.proofs.Common.{◌≡◌, ℕ, Bool, true, false, cond, ◌&&◌, leb, List, [], ◌∷◌, map, length, filter, sym, refl, ap, ◌∙◌, subst, ap₂}
 use Rattle.std.specs.List.{AllByRecursion as All}
 use Rattle.std.proofs.ByRecursion.{All-map, All-weaker, all_kept_by}
 use Rattle.std.proofs.lemmas.List.{length-map}
-use Rattle.refine.specs.Chains.{Family, Table, table, kth_least, threshold, not_above, admitted}
-use Rattle.refine.specs.Steps.{Candidate, State, Runs, start, begin}
+use Rattle.refine.specs.Chains.{Family, table, kth_least, threshold, not_above, admitted}
+use Rattle.refine.specs.Steps.{State, Runs, begin}
 use Rattle.refine.specs.Theorems.{stand_ins, image, StandInsRun}
-use Rattle.refine.proofs.Images.{back, image_of, Agree, runs_image}
+use Rattle.refine.proofs.Images.{image_of, runs_image}
 
 kept_map : {A B : Type 0} (f : A → B) (p : A → Bool) (p' : B → Bool) (l : List A) → All (λ a. p a ≡ p' (f a)) l → map f (filter p l) ≡ filter p' (map f l)
 kept_map f p p' [] h = refl

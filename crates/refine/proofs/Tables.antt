@@ -1,19 +1,17 @@
 -- The tables of a question: lawful chains, whose finished list is the full scan; and one full scan for all indexes that measure alike.
-use Rattle.std.proofs.Common.{◌≡◌, ℕ, zero, suc, ◌+◌, ◌*◌, ◌<◌, ◌≤◌, Bool, leb, List, [], ◌∷◌, map, length, get_or, take, drop, sum_by, filter, sym, refl, ap, ◌∙◌, subst, ap₂, arith, take_all}
+use Rattle.std.proofs.Common.{◌≡◌, ℕ, zero, suc, ◌+◌, ◌*◌, ◌<◌, ◌≤◌, leb, List, [], ◌∷◌, map, length, get_or, take, drop, sum_by, sym, refl, ap, ◌∙◌, subst, ap₂, arith, take_all}
 use mathlib.Core.List.{IsPrefix}
 use Rattle.std.specs.List.{range_with_len, AllByRecursion as All}
-use Rattle.std.specs.List.Sorted.{IsPermutation}
 use Rattle.std.proofs.ByRecursion.{All-weaker, All-take, all_kept_by}
 use Rattle.std.proofs.lemmas.List.Sums.{sum_by_more}
 use Rattle.metric.specs.Model.{Model, Row}
 use Rattle.metric.specs.Channels.{at, no_model}
-use Rattle.aggregate.specs.Aggregates.{LawfulAggregate}
 use Rattle.patch.specs.Patches.{Patch, width_of, patch_width, offset, row, distance_in, weighted, all_weighted}
 use Rattle.patch.proofs.Rows.{row_is_row as cut_row}
 use Rattle.refine.specs.Chains.{Table, LawfulFamily, distance}
 use Rattle.refine.specs.Scan.{ranking, finished}
 use Rattle.refine.specs.OrderLaws.{numbers, keys}
-use Rattle.refine.specs.Bounds.{Bracketed, upper_of, dists}
+use Rattle.refine.specs.Bounds.{Bracketed, upper_of}
 use Rattle.refine.specs.Questions.{Question, Contents, distance_to, neighbor, scan, near, far, channels, family, refined, Posed, Alike, Same}
 use Rattle.refine.specs.Searches.{Refinable, PosedRefinable, ScanIsOne, SearchesEnd, SearchesAgree}
 use Rattle.refine.proofs.Reorders.{Reordered, same, reordered, perm_all}

@@ -1,9 +1,9 @@
 -- What is measured stays measured, and a step measures what it says.
-use Rattle.std.proofs.Common.{◌≡◌, ℕ, suc, ◌<◌, Bool, ◌⊎◌, List, [], ◌∷◌, ◌++◌, sym, refl, ap, ◌∙◌, inl, inr, arith}
+use Rattle.std.proofs.Common.{◌≡◌, ℕ, suc, Bool, ◌⊎◌, List, [], ◌∷◌, ◌++◌, refl, ap, inl, inr, arith}
 use Rattle.std.specs.List.{ContainsAt as Has, AllByRecursion as All}
 use Rattle.std.proofs.ByRecursion.{All-push, has_append_left, has_push, has_shuffled, all_shuffled}
 use Rattle.refine.specs.Chains.{Table}
-use Rattle.refine.specs.Steps.{Candidate, State, on, naming, measuring, Chosen, Move, names, measures, Runs, finishes, stops, goes, Taken}
+use Rattle.refine.specs.Steps.{Candidate, State, on, naming, measuring, Move, names, measures, Runs, finishes, stops, goes, Taken}
 use Rattle.refine.specs.Theorems.{MeasuredStays}
 use Rattle.refine.proofs.Lists.{has_here, has_there, has_cases}
 

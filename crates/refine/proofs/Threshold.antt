@@ -1,13 +1,12 @@
 -- Which keys do not come after the k-th of a rising list.
-use Rattle.std.proofs.Common.{◌≡◌, ℕ, zero, suc, ◌+◌, ◌-◌, ◌<◌, ◌≤◌, Bool, true, false, cond, not, ◌&&◌, ◌⊎◌, List, [], ◌∷◌, ◌++◌, map, length, take, filter, sym, refl, ap, ◌∙◌, subst, inl, inr, arith}
-use mathlib.Core.Option.{Option, none, some}
+use Rattle.std.proofs.Common.{◌≡◌, ℕ, zero, suc, ◌+◌, ◌≤◌, Bool, true, false, cond, ◌⊎◌, List, [], ◌∷◌, take, filter, refl, ap, inl, inr, arith}
 use lib.ListN.{get_elem?}
 use Rattle.std.specs.List.{ContainsAt as Has, AllByRecursion as All}
 use Rattle.std.proofs.ByRecursion.{all_kept_by, All-weaker, all-has}
 use Rattle.refine.specs.Chains.{Table}
 use Rattle.refine.specs.Scan.{final, not_after}
 use Rattle.refine.proofs.Lists.{adding, has_here, has_there, has_cases}
-use Rattle.refine.proofs.Ranks.{le_refl, le_lt, lt_le, Ascending}
+use Rattle.refine.proofs.Ranks.{le_refl, Ascending}
 
 module _ {A K : Type 0} (x : Table A K) where
   -- y does not come after the k-th, where there is one; with k = 0 nothing passes

@@ -8,7 +8,7 @@ use Rattle.patch.specs.Patches.{Patch, patch_width, row, distance_in, all_weight
 use Rattle.refine.specs.Orders.{number_first, sorted_by}
 use Rattle.refine.specs.OrderLaws.{numbers}
 use Rattle.refine.specs.Chains.{Family, Table, EachTwo, table}
-use Rattle.refine.specs.Bounds.{Channel, Channels, lower_of, upper_of, chained}
+use Rattle.refine.specs.Bounds.{Channels, lower_of, upper_of, chained}
 
 -- the query's rows, one after another in channel order; a weight for each channel; how to aggregate; how many patches are wanted,
 -- and how far away at most

@@ -3,7 +3,7 @@ use Rattle.std.specs.Prelude.{◌≡◌, ℕ, zero, suc, ◌-◌, ◌*◌, ◌<�
 use Rattle.std.proofs.Math.Option.{Option, none, some}
 use Rattle.std.specs.List.Sorted.{IsPermutation}
 use Rattle.std.specs.List.{ContainsAt as Has, AllByRecursion as All}
-use Rattle.refine.specs.Chains.{Family, Table, table, admitted}
+use Rattle.refine.specs.Chains.{Family, Table, admitted}
 
 -- an admitted patch that is not named yet, with the number of its channels that are measured
 pub record Candidate (A : Type 0) : Type 0 where

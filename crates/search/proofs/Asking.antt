@@ -1,5 +1,5 @@
 -- The table of distances from a query to pivots, as it is filled.
-use Rattle.std.proofs.Common.{◌≡◌, ℕ, ◌+◌, ◌<◌, List, map, length, get_or, set, sym, ap, ◌∙◌, subst, inl, inr, ⊎_elim, arith}
+use Rattle.std.proofs.Common.{◌≡◌, ℕ, ◌+◌, ◌<◌, List, length, get_or, set, ap, ◌∙◌, inl, inr, ⊎_elim}
 use Rattle.std.proofs.lemmas.List.Edits.{fill_by_more}
 use Rattle.metric.specs.Model.{Model}
 use Rattle.metric.specs.Channels.{Asked, at}

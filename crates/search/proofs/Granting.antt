@@ -1,11 +1,11 @@
 -- What a search that is granted knows of its question, and the promise that it keeps.
-use Rattle.std.proofs.Common.{◌≡◌, ℕ, ◌<◌, ◌≤◌, Bool, true, false, cond, eqb, ltb, List, ◌∷◌, length, get_or, Some, None, sym, refl, ◌∙◌, subst, arith}
+use Rattle.std.proofs.Common.{◌≡◌, ℕ, ◌<◌, ◌≤◌, List, ◌∷◌, length, get_or, None, sym, ◌∙◌, subst, arith}
 use Rattle.std.proofs.lemmas.Bool.Decides.{nat_tests}
 use Rattle.metric.specs.Model.{Model}
 use Rattle.metric.specs.Channels.{Asked, AllLawful}
 use Rattle.aggregate.specs.Aggregates.{LawfulAggregate}
 use Rattle.patch.specs.Patches.{few, patch_width}
-use Rattle.refine.specs.Questions.{Question, Fits}
+use Rattle.refine.specs.Questions.{Question}
 use Rattle.index.specs.declared.counts.Counts.{Counts}
 use Rattle.index.specs.History.{Call, Holds, nearest}
 use Rattle.engine.specs.declared.records.Answer.{Answer}

@@ -1,5 +1,5 @@
 -- The bounds from one pivot more.
-use Rattle.std.proofs.Common.{◌≡◌, ℕ, zero, suc, ◌+◌, ◌≤◌, min, max, List, map, sym, refl, ap, ◌∙◌, add-one, arith}
+use Rattle.std.proofs.Common.{◌≡◌, ℕ, zero, suc, ◌+◌, ◌≤◌, min, max, map, add-one, arith}
 use Rattle.std.specs.List.{range_with_len}
 use Rattle.metric.specs.Distances.{difference}
 use Rattle.refine.specs.Bounds.{lower_of, upper_of}

@@ -1,5 +1,5 @@
 -- What a search comes to.
-use Rattle.std.proofs.Common.{◌≡◌, ℕ, ◌≤◌, Bool, cond, ltb, List, ◌++◌, map, length, drop, Some, None, Ok, Err, Option, Result, sym, refl, ap, ◌∙◌, subst, arith, length-append, le-ltb}
+use Rattle.std.proofs.Common.{◌≡◌, ℕ, ◌≤◌, List, map, length, drop, Ok, Err, Result, ap, ◌∙◌, arith, length-append, le-ltb}
 use Rattle.std.proofs.lemmas.List.{length-map}
 use Rattle.metric.specs.Model.{Model}
 use Rattle.metric.specs.Channels.{Asked}
@@ -7,7 +7,6 @@ use Rattle.aggregate.specs.Choices.{chosen, number as choice_number}
 use Rattle.aggregate.specs.declared.Choice.{Choice}
 use Rattle.aggregate.specs.declared.Choice.TheVariants.{Sum, Max, Min}
 use Rattle.refusal.specs.declared.Refusal.{Refusal}
-use Rattle.refusal.specs.declared.Refusal.TheVariants.{UnknownAggregate}
 use Rattle.index.specs.declared.counts.Counts.{Counts}
 use Rattle.index.specs.History.{Written}
 use Rattle.refine.specs.Questions.{Question}

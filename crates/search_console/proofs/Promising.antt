@@ -1,5 +1,5 @@
 -- A session over an index that a history has led to.
-use Rattle.std.proofs.Common.{◌≡◌, ℕ, zero, suc, ◌<◌, ◌≤◌, List, [], ◌∷◌, ◌++◌, length, get_or, Some, None, Ok, Err, Option, Result, sym, refl, ap, ◌∙◌, subst, append_assoc, arith, lit<}
+use Rattle.std.proofs.Common.{◌≡◌, ℕ, zero, suc, ◌<◌, ◌≤◌, List, [], ◌∷◌, ◌++◌, length, get_or, Ok, Err, Result, sym, refl, ap, ◌∙◌, subst, lit<}
 use Rattle.big_endian.specs.Numbers.{be16, be32}
 use Rattle.metric.specs.Model.{Model}
 use Rattle.metric.specs.Channels.{AllLawful}
@@ -12,13 +12,13 @@ use Rattle.aggregate.specs.Folds.{total_lawful, greatest_lawful, smallest_lawful
 use Rattle.refusal.specs.declared.Refusal.{Refusal}
 use Rattle.command.specs.declared.format.Format.{Format}
 use Rattle.command.specs.Commands.{Instruction, insert, remove, add_pivot, remove_pivot, nearest, encode, Fits}
-use Rattle.index.specs.History.{Call, Written, Holds, worked, call, Fits as CallFits}
+use Rattle.index.specs.History.{Call, Written, Holds, call, Fits as CallFits}
 use Rattle.engine.specs.declared.records.Answer.{Answer}
 use Rattle.engine.specs.declared.records.Neighbor.{Neighbor}
-use Rattle.search.specs.Refusals.{handed, refused, Granted}
+use Rattle.search.specs.Refusals.{handed, Granted}
 use Rattle.search.specs.Promised.{question}
 use Rattle.search.proofs.Granting.{keeps}
-use Rattle.search_console.specs.Sessions.{Room, Session, over, unread, next, Says, Found, Replies, nearest_refusal, call_of, unfollowed}
+use Rattle.search_console.specs.Sessions.{Room, Session, over, unread, next, Says, Replies, nearest_refusal, call_of, unfollowed}
 use Rattle.search_console.specs.Promises.{Kept, Tells, PromisedSession, Promised, over as all_read, unread as not_read, next as and_next}
 use Rattle.search_console.proofs.Finding.{checked}
 

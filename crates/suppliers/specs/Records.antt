@@ -1,5 +1,5 @@
 -- A metric between single bytes that records what it is asked.
-use Rattle.std.specs.Prelude.{◌≡◌, ℕ, ◌+◌, ◌-◌, ◌*◌, ◌<◌, min, List, length, slice_index, slice_index_or}
+use Rattle.std.specs.Prelude.{◌≡◌, ℕ, ◌+◌, ◌-◌, ◌*◌, min, List, slice_index, slice_index_or}
 use Rattle.metric.specs.Model.{Model, Row}
 
 -- 0 at equal bytes, else 1

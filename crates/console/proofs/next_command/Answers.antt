@@ -1,4 +1,4 @@
-use Rattle.std.proofs.Common.{sym, ◌∙◌}
+use Rattle.std.proofs.Common.{◌∙◌}
 use Rattle.console.proofs.Reading.{peeked, served_next}
 use Rattle.console.proofs.next_command.Goals as goal
 

@@ -1,5 +1,4 @@
 use Rattle.std.proofs.Common.{ℕ, List, [], ◌++◌, string_bytes, sym, refl, ap, ◌∙◌, append_assoc, append-nil}
-use Rattle.metric.specs.Model.{Model}
 use Rattle.std.proofs.lemmas.Result.{err_from_is_err_and}
 use Rattle.patch.specs.Patches.{few}
 use Rattle.console.proofs.Running.{begun, go_on, shorter, come}

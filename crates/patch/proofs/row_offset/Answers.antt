@@ -1,5 +1,5 @@
-use Rattle.std.proofs.Common.{◌≡◌, ℕ, ◌<◌, ◌≤◌, min, length, ap, ◌∙◌, arith, length-take}
-use Rattle.patch.specs.Patches.{few, patch_width, offset}
+use Rattle.std.proofs.Common.{ap, ◌∙◌, arith, length-take}
+use Rattle.patch.specs.Patches.{few, patch_width}
 use Rattle.patch.proofs.Widths.{Turn, turn, offset_all, offset_end, few_all}
 use Rattle.patch.proofs.row_offset.Given as given
 use Rattle.patch.proofs.row_offset.Goals as goal

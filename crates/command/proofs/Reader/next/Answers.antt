@@ -1,4 +1,4 @@
-use Rattle.std.proofs.Common.{Some, Ok, Err, Option, refl, subst}
+use Rattle.std.proofs.Common.{Some, Ok, Err, refl, subst}
 use Rattle.std.proofs.lemmas.Result.{err_from_is_err_and}
 use Rattle.command.specs.Commands.{InFront}
 use Rattle.command.proofs.Written.{exact}

@@ -5,7 +5,6 @@ use Rattle.patch.specs.Patches.{few, offset}
 use Rattle.big_endian.specs.Numbers.{be16}
 use Rattle.index.specs.Bytes.{part}
 use Rattle.index.specs.Layouts.{row_at}
-use Rattle.index.specs.Steps.{store_own}
 use Rattle.index.specs.Works.{OwnAsks}
 use Rattle.index.proofs.Puts.{take_put}
 use Rattle.index.proofs.Stores.{model_in_use, pivot_begins, pivot_same, own_row_same, own_more, adds_pair}

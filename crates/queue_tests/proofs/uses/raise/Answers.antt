@@ -1,4 +1,4 @@
-use Rattle.std.proofs.Common.{Some, None, Option, sym, subst, MatchOption}
+use Rattle.std.proofs.Common.{Some, None, Option, subst, MatchOption}
 use Rattle.queue.specs.Heaps.{Replaced}
 use Rattle.queue.proofs.Slots.{same_top}
 use Rattle.queue_tests.specs.Entries.{ByBound, rebound}

@@ -1,4 +1,4 @@
-use Rattle.std.proofs.Common.{ℕ, ◌+◌, ◌*◌, min, get_or, ap, ◌∙◌, arith, rules}
+use Rattle.std.proofs.Common.{ℕ, ◌+◌, ◌*◌, min, get_or, ap, ◌∙◌, arith}
 use Rattle.index.specs.Bytes.{get16}
 use Rattle.metric.specs.Distances.{difference}
 use Rattle.search.proofs.Walking.{lower_more, upper_more}

@@ -1,4 +1,4 @@
-use Rattle.std.proofs.Common.{◌≡◌, ℕ, ◌≤◌, [], length, get_or, ap, ◌∙◌, arith}
+use Rattle.std.proofs.Common.{ℕ, ◌≤◌, [], get_or, ap, ◌∙◌, arith}
 use Rattle.patch.specs.Patches.{few}
 use Rattle.refine.specs.Bounds.{upper_of}
 use Rattle.promise.specs.Held.{near, far}
