@@ -1,7 +1,7 @@
 -- The candidates that the passes leave stand for the start of the step rule.
 use Rattle.std.proofs.Common.{◌≡◌, ℕ, ◌+◌, ◌<◌, ◌≤◌, Bool, cond, List, [], ◌∷◌, map, length, take, filter, sym, refl, ap, ◌∙◌, subst, arith}
 use mathlib.Core.Option.{Option}
-use Rattle.std.specs.List.{range_with_len, AllByRecursion as All}
+use Rattle.std.specs.List.{range_with_len, AllByRecursion as Every}
 use Rattle.std.specs.List.Sorted.{IsPermutation}
 use Rattle.std.proofs.lemmas.List.{length-map, length-take-le}
 use Rattle.std.proofs.ByRecursion.{All-from_get_or, All-weaker}
@@ -17,7 +17,7 @@ use Rattle.engine.specs.Passes.{passes, bound_at, FirstBounds, spot, untouched, 
 use Rattle.engine.specs.Outcomes.{Question, slots_of, family_of}
 use Rattle.engine.specs.Turns.{Stands}
 
-kept_same : {A : Type 0} (p q : A → Bool) (l : List A) → All (λ a. p a ≡ q a) l → filter p l ≡ filter q l
+kept_same : {A : Type 0} (p q : A → Bool) (l : List A) → Every (λ a. p a ≡ q a) l → filter p l ≡ filter q l
 kept_same p q [] h = refl
 kept_same p q (a ∷ l) h = ap (λ b. cond b (a ∷ filter p l) (filter p l)) h.0 ∙ ap (λ r. cond (q a) (a ∷ r) r) (kept_same p q l h.1)
 

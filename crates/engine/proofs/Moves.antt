@@ -2,7 +2,7 @@
 use Rattle.std.proofs.Common.{◌≡◌, ℕ, suc, ◌+◌, ◌-◌, ◌<◌, ◌≤◌, true, false, leb, List, [], ◌∷◌, ◌++◌, map, length, get_or, take, drop, set, sum_by, sym, ap, ◌∙◌, subst, inl, inr, ⊎_elim, arith, le-leb}
 use borrow.Author.Tests.{lt-leb}
 use Rattle.std.specs.List.Sorted.{IsPermutation}
-use Rattle.std.specs.List.{AllByRecursion as All}
+use Rattle.std.specs.List.{AllByRecursion as Every}
 use Rattle.std.proofs.lemmas.List.{append_assoc, map_push, length_push, length-map, length-append, length-drop, length-take-le, get_or-take, drop_more, set_at}
 use Rattle.std.proofs.ByRecursion.{All-get_or, All-from_get_or, All-map, All-weaker, all_shuffled}
 use Rattle.std.proofs.lemmas.List.Sums.{sum_by-cons}
@@ -56,7 +56,7 @@ module _ (t : Tables) (q : Question) where
     is_full h = full (let e = st.named in omega arith)
 
     pub is_empty : Outside p.waiting xs → Move rule q.k q.budget s done
-    is_empty h = dry (all_shuffled _ (map spot front) s.live (IsPermutation-sym s.live (map spot front) st.live) (subst (λ (n : ℕ). All (λ c. rule.within (key_now rule c) ≡ false) (map spot (take n xs))) (sym none) tt))
+    is_empty h = dry (all_shuffled _ (map spot front) s.live (IsPermutation-sym s.live (map spot front) st.live) (subst (λ (n : ℕ). Every (λ c. rule.within (key_now rule c) ≡ false) (map spot (take n xs))) (sym none) tt))
       where
         none : p.waiting ≡ 0
         none = ⊎_elim (λ e. e) (λ l. absurd (let w = st.within in omega arith)) h
@@ -81,7 +81,7 @@ module _ (t : Tables) (q : Question) where
       unfolding rest
       front_is = drop_more front 0 no_candidate some ∙ ap (λ (y : Candidate). y ∷ drop 1 front) first
 
-      near : All (ByBound top) front
+      near : Every (ByBound top) front
       unfolding Least
       near = All-from_get_or (ByBound top) front no_candidate (λ i l. pk.least st.heap i no_candidate l)
 
@@ -93,7 +93,7 @@ module _ (t : Tables) (q : Question) where
               (all_shuffled (λ v. Fine v × ByBound top v) front (top ∷ R) sh (all_both Fine (ByBound top) front st.coherent near)).1);
         }
 
-        fine_rest : All Fine R
+        fine_rest : Every Fine R
         fine_rest = (all_shuffled Fine front (top ∷ R) sh st.coherent).1
 
         less_by : sum_by (λ x. suc (t.channels - x.measured)) front ≡ suc (t.channels - top.measured) + sum_by (λ x. suc (t.channels - x.measured)) R

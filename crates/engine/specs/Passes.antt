@@ -1,7 +1,7 @@
 -- What the two passes over the slots leave.
 use Rattle.std.specs.Prelude.{◌≡◌, ℕ, ◌<◌, ◌≤◌, Bool, ◌&&◌, List, map, length, take, Some, None, filter, nat_le, slice_index_or}
 use Rattle.std.proofs.Math.Option.{Option, none, some}
-use Rattle.std.specs.List.{range_with_len, AllByRecursion as All}
+use Rattle.std.specs.List.{range_with_len, AllByRecursion as Every}
 use Rattle.std.specs.List.Sorted.{IsPermutation}
 use Rattle.std.specs.declared.option.Option as rust
 use Rattle.queue.specs.Heaps.{Heaped}
@@ -49,5 +49,5 @@ pub record Admits (t : Tables) (weights : List ℕ) (admits : ℕ → Bool) (i n
   pub few : n ≤ i
   pub stand : (j : ℕ) → i ≤ j → bound_at ys j ≡ bound_at xs j
   pub heap : Heaped ByBound (take n ys)
-  pub sound : All (λ x. Unmeasured t weights x.slot (bound_at xs x.slot) x) (take n ys)
+  pub sound : Every (λ x. Unmeasured t weights x.slot (bound_at xs x.slot) x) (take n ys)
   pub live : IsPermutation (map spot (take n ys)) (map untouched (filter admits (range_with_len 0 i)))

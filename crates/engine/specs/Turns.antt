@@ -1,7 +1,7 @@
 -- One step of the engine, and a whole run.
 use Rattle.std.specs.Prelude.{◌≡◌, ℕ, suc, ◌+◌, ◌-◌, ◌<◌, ◌≤◌, Bool, ◌⊎◌, List, ◌++◌, map, length, take, drop, sum_by, ◌≢◌}
 use Rattle.std.specs.List.Sorted.{IsPermutation}
-use Rattle.std.specs.List.{AllByRecursion as All}
+use Rattle.std.specs.List.{AllByRecursion as Every}
 use Rattle.metric.specs.Channels.{Asked}
 use Rattle.queue.specs.Heaps.{Heaped}
 use Rattle.refine.specs.Chains.{table}
@@ -36,7 +36,7 @@ pub record Advanced (t : Tables) (weights : List ℕ) (aggregate : List ℕ → 
 pub record Stands (t : Tables) (q : Question) (old : List Neighbor) (xs : List Candidate) (hs : List Neighbor) (p : Progress) (s : State ℕ) : Type 0 where
   pub within : p.waiting ≤ length xs
   pub heap : Heaped ByBound (take p.waiting xs)
-  pub coherent : All (Coherent t q.weights q.aggregate) (take p.waiting xs)
+  pub coherent : Every (Coherent t q.weights q.aggregate) (take p.waiting xs)
   pub live : IsPermutation s.live (map spot (take p.waiting xs))
   pub named : p.named ≡ length s.named
   pub measured : p.measured ≡ s.measured

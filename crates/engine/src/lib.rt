@@ -5,6 +5,6 @@ mod bounds;
 mod gaps;
 mod passes;
 pub mod records;
-pub mod refine;
+pub mod refinement;
 pub mod source;
 mod steps;

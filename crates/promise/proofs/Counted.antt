@@ -1,6 +1,6 @@
 -- Lists read by place, and lists mapped.
 use Rattle.std.proofs.Common.{◌≡◌, ℕ, suc, ◌<◌, List, [], ◌∷◌, map, length, get_or, sym, refl, ap, ◌∙◌, ap₂, arith}
-use Rattle.std.specs.List.{range_with_len, ContainsAt as Has, AllByRecursion as All}
+use Rattle.std.specs.List.{range_with_len, ContainsAt as Has, AllByRecursion as Every}
 use Rattle.std.proofs.lemmas.List.FromFn.{fill_by_all}
 use Rattle.std.proofs.ByRecursion.{All-from_get_or}
 use Rattle.std.proofs.lemmas.List.{length-map, get_or-map}
@@ -30,6 +30,6 @@ pub has_map : {X Y : Type 0} (f : X → Y) (xs : List X) (x : X) → Has xs x �
 has_map f xs x h = (h.0, omega (arith, h.1, length-map xs f), λ d. get_or-map f xs h.0 x d h.1 ∙ ap f (h.2 x))
 
 -- two ways to map in two steps that agree on each element
-pub map_twice : {X Y Y' Z : Type 0} (f : X → Y) (g : Y → Z) (f' : X → Y') (g' : Y' → Z) (xs : List X) → All (λ x. g (f x) ≡ g' (f' x)) xs → map g (map f xs) ≡ map g' (map f' xs)
+pub map_twice : {X Y Y' Z : Type 0} (f : X → Y) (g : Y → Z) (f' : X → Y') (g' : Y' → Z) (xs : List X) → Every (λ x. g (f x) ≡ g' (f' x)) xs → map g (map f xs) ≡ map g' (map f' xs)
 map_twice f g f' g' [] h = refl
 map_twice f g f' g' (x ∷ xs) h = ap₂ (λ y ys. y ∷ ys) h.0 (map_twice f g f' g' xs h.1)

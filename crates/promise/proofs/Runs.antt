@@ -1,6 +1,6 @@
 -- A run over the slots of a store is a search of the index: what is named there, and how many are admitted.
 use Rattle.std.proofs.Common.{◌≡◌, ℕ, ◌<◌, Bool, List, map, length, take, filter, sym, ap, ◌∙◌, subst, arith}
-use Rattle.std.specs.List.{AllByRecursion as All}
+use Rattle.std.specs.List.{AllByRecursion as Every}
 use Rattle.std.proofs.ByRecursion.{All-weaker, All-map, all_kept_by, All-get_or}
 use Rattle.std.proofs.lemmas.List.{length-map, take_at}
 use Rattle.metric.specs.Model.{Model}
@@ -43,14 +43,14 @@ module _ (ms : List Model) (cap : ℕ) (ps : List Patch) (pv : ℕ → List (Lis
   slots_hold : map stored slots ≡ ps
   slots_hold = all_places ps k.held no_patch rd.count
 
-  slots_used : All (λ i. i < length ps) slots
+  slots_used : Every (λ i. i < length ps) slots
   slots_used = all_counting (λ i. i < length ps) 0 k.held (λ i l h. in_use i (omega arith))
 
   -- the chains of the slots
   abbrev chains : Family ℕ ℕ
   chains = family_of (found ms cap ps pv k b rd law q) posing
 
-  stand : All (λ i. ((t : ℕ) → chains.bound i t ≡ (family ms q pv).bound (stored i) t) × (chains.upper i ≡ (family ms q pv).upper (stored i)) × (chains.id i ≡ (family ms q pv).id (stored i))) slots
+  stand : Every (λ i. ((t : ℕ) → chains.bound i t ≡ (family ms q pv).bound (stored i) t) × (chains.upper i ≡ (family ms q pv).upper (stored i)) × (chains.id i ≡ (family ms q pv).id (stored i))) slots
   stand = All-weaker (λ i. i < length ps) _ (λ i h. (bound_found ms cap ps pv k b rd law q i h, upper_found ms cap ps pv k b rd law q i h, rd.number i h)) slots slots_used
 
   -- a run over the slots is a search
@@ -67,13 +67,13 @@ module _ (ms : List Model) (cap : ℕ) (ps : List Patch) (pv : ℕ → List (Lis
       ∙ ap (λ (l : List Patch). length (filter (admitted (family ms q pv) q.k q.radius l) l)) slots_hold
 
   -- it names slots in use alone
-  named_used : (done : Bool) (e : State ℕ) → Runs (table chains q.radius) q.k budget (begin chains q.k q.radius slots) done e → All (λ i. i < length ps) e.named
+  named_used : (done : Bool) (e : State ℕ) → Runs (table chains q.radius) q.k budget (begin chains q.k q.radius slots) done e → Every (λ i. i < length ps) e.named
   named_used done e r = named_all (table chains q.radius) q.k budget (λ i. i < length ps) (begin chains q.k q.radius slots) r
       (All-map (λ (c : Candidate ℕ). c.patch < length ps) (λ i. record { patch = i; t = 0 }) (filter (admitted chains q.k q.radius slots) slots)
       (all_kept_by (admitted chains q.k q.radius slots) (λ i. i < length ps) slots slots_used))
       tt
 
-  module _ (distances : All (λ o. distance (family ms q pv) o ≡ distance_to ms q o) ps) where
+  module _ (distances : Every (λ o. distance (family ms q pv) o ≡ distance_to ms q o) ps) where
     -- the hit of a slot is its patch as an answer gives it
     hit_same : (i : ℕ) → i < length ps → ◌≡◌ {A = ℕ × ℕ} (chains.id i, distance chains i) (neighbor ms q (stored i))
     hit_same i h =

@@ -1,7 +1,7 @@
 -- What one number more does to the k least so far, and what the first of them is.
 use Rattle.std.proofs.Common.{◌≡◌, ℕ, ◌+◌, ◌-◌, ◌<◌, ◌≤◌, min, Bool, cond, ltb, leb, List, [], ◌∷◌, ◌++◌, length, get_or, take, drop, sym, refl, ap, ◌∙◌, subst, ⊎_elim, not-suc-le-zero, arith, le-ltb, le-leb}
 use Rattle.std.specs.List.Sorted.{IsPermutation, IsNonDecreasing}
-use Rattle.std.specs.List.{AllByRecursion as All}
+use Rattle.std.specs.List.{AllByRecursion as Every}
 use Rattle.std.proofs.lemmas.Bool.Decides.{nat_tests}
 use Rattle.std.proofs.lemmas.Bool.{cases_order}
 use Rattle.std.proofs.lemmas.List.{append_assoc, append-nil, length-append, length-map, length_push, length-take-le, length-drop, get_or-take, get_or-drop, nil_from_length, drop-drop}
@@ -17,7 +17,7 @@ use Rattle.queue.proofs.Shuffles.{shuffled_map, shuffled_before}
 
 -- y is at least each of the numbers
 abbrev Over : List ℕ → ℕ → Type 0
-Over xs y = All (λ x. x ≤ y) xs
+Over xs y = Every (λ x. x ≤ y) xs
 
 length_numbers : (us : List Upper) → length (numbers us) ≡ length us
 length_numbers us = length-map us (λ u. u.0)
@@ -31,7 +31,7 @@ none_kept k = record { size = omega arith; others = []; items = IsPermutation-re
 
 -- one number more
 module _ (k x : ℕ) (p : List ℕ) (us vs : List Upper) (out : List ℕ) (was : Kept k p us) where
-  kept_next : IsPermutation (x ∷ numbers us) (numbers vs ++ out) → length vs ≡ min k (length p + 1) → All (Over (numbers vs)) out → All (Over (numbers vs)) was.others → Heaped Descending vs → Kept k (p ++ x ∷ []) vs
+  kept_next : IsPermutation (x ∷ numbers us) (numbers vs ++ out) → length vs ≡ min k (length p + 1) → Every (Over (numbers vs)) out → Every (Over (numbers vs)) was.others → Heaped Descending vs → Kept k (p ++ x ∷ []) vs
   kept_next s n a b h = record {
     size = n ∙ ap (min k) (sym (length_push p x));
     others = out ++ was.others;
@@ -51,7 +51,7 @@ none_out k p us was lt =
     nil_from_length was.others (omega arith)
 
 -- the first of the records has what each of them has
-first_has : (P : ℕ → Type 0) (us : List Upper) (t : Upper) → 0 < length us → t ≡ get_or us 0 t → All P (numbers us) → P t.0
+first_has : (P : ℕ → Type 0) (us : List Upper) (t : Upper) → 0 < length us → t ≡ get_or us 0 t → Every P (numbers us) → P t.0
 first_has P [] t l e a = absurd (not-suc-le-zero l)
 first_has P (u ∷ us) t l e a = subst (λ (w : Upper). P w.0) (sym e) a.0
 
@@ -59,10 +59,10 @@ all_under : (us : List Upper) (t : Upper) → Least Descending t us → Over (nu
 unfolding Least
 all_under us t h = All-map (λ x. x ≤ t.0) (λ u. u.0) us (All-from_get_or (λ u. u.0 ≤ t.0) us t (λ i l. h i t l))
 
-others_over : (us : List Upper) (t : Upper) (others : List ℕ) → 0 < length us → t ≡ get_or us 0 t → All (Over (numbers us)) others → All (λ y. t.0 ≤ y) others
+others_over : (us : List Upper) (t : Upper) (others : List ℕ) → 0 < length us → t ≡ get_or us 0 t → Every (Over (numbers us)) others → Every (λ y. t.0 ≤ y) others
 others_over us t others l e a = All-weaker (Over (numbers us)) (λ y. t.0 ≤ y) (λ y h. first_has (λ x. x ≤ y) us t l e h) others a
 
-over_over : (xs : List ℕ) (v : ℕ) (others : List ℕ) → Over xs v → All (λ y. v ≤ y) others → All (Over xs) others
+over_over : (xs : List ℕ) (v : ℕ) (others : List ℕ) → Over xs v → Every (λ y. v ≤ y) others → Every (Over xs) others
 over_over xs v others a b = All-weaker (λ y. v ≤ y) (Over xs) (λ y h. All-weaker (λ x. x ≤ v) (λ x. x ≤ y) (λ x g. omega arith) xs a) others b
 
 -- the ways of `take_in`
@@ -86,7 +86,7 @@ module _ (k n x : ℕ) (xs : List Upper) (le : n ≤ k) (room : k ≤ length xs)
         keeps = λ p was.
             let z = was.size in
             kept_next k x p (take n xs) (take (n + 1) ys) [] was s (omega arith) tt
-            (subst (All (Over (numbers (take (n + 1) ys)))) (sym (none_out k p (take n xs) was (omega arith))) tt) (h.heap was.heap);
+            (subst (Every (Over (numbers (take (n + 1) ys)))) (sym (none_out k p (take n xs) was (omega arith))) tt) (h.heap was.heap);
       }
 
   stays : (ys : List Upper) → n ≡ k → ys ≡ xs → (Heaped Descending (take n xs) → Over (numbers (take n xs)) x) → Offered k n x xs n ys
@@ -151,7 +151,7 @@ module _ (k n x : ℕ) (xs : List Upper) (le : n ≤ k) (room : k ≤ length xs)
 abbrev one : Bool → ℕ
 one b = cond b 1 0
 
-none_below : (v : ℕ) (xs : List ℕ) → All (λ y. v ≤ y) xs → below v xs ≡ 0
+none_below : (v : ℕ) (xs : List ℕ) → Every (λ y. v ≤ y) xs → below v xs ≡ 0
 none_below v [] a = refl
 none_below v (x ∷ xs) a =
     let e = sum_by-cons (λ y. one (ltb y v)) x xs in
@@ -222,7 +222,7 @@ kth_rising k xs up pos le =
     let lf : length front ≡ k = length-take-le k xs le in
     let lt : length (take (k - 1) xs) ≡ k - 1 = length-take-le (k - 1) xs (omega arith) in
     let lb = length-drop (k - 1) xs in
-    let over : All (λ y. v ≤ y) back = All-from_get_or (λ y. v ≤ y) back 0 (λ i l. subst (λ y. v ≤ y) (sym (get_or-drop (k - 1) xs i 0)) (up (k - 1) (k - 1 + i) 0 (omega arith) (omega arith))) in
+    let over : Every (λ y. v ≤ y) back = All-from_get_or (λ y. v ≤ y) back 0 (λ i l. subst (λ y. v ≤ y) (sym (get_or-drop (k - 1) xs i 0)) (up (k - 1) (k - 1 + i) 0 (omega arith) (omega arith))) in
     let under : Over front v = All-from_get_or (λ y. y ≤ v) front 0 (λ i l. subst (λ y. y ≤ v) (sym (get_or-take k xs i 0 (omega arith))) (up i (k - 1) 0 (omega arith) (omega arith))) in
     let b₀ = sum_by-take-drop (λ y. one (ltb y v)) xs (k - 1) in
     let b₁ = count_by-le-length (λ y. ltb y v) (take (k - 1) xs) in

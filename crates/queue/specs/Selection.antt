@@ -1,6 +1,6 @@
 -- The k-th least of a list of numbers, by counts, and how a queue of k records finds it.
 use Rattle.std.specs.Prelude.{◌≡◌, ℕ, ◌+◌, ◌<◌, ◌≤◌, min, List, [], ◌∷◌, ◌++◌, map, length, take, drop, count_by, nat_le, nat_lt, slice_index_or}
-use Rattle.std.specs.List.{AllByRecursion as All}
+use Rattle.std.specs.List.{AllByRecursion as Every}
 use Rattle.std.specs.List.Sorted.{IsPermutation}
 use Rattle.queue.specs.Heaps.{Heaped}
 use Rattle.queue.specs.Kinds.{Descending}
@@ -32,7 +32,7 @@ pub record Kept (k : ℕ) (p : List ℕ) (us : List Upper) : Type 0 where
   pub size : length us ≡ min k (length p)
   pub others : List ℕ
   pub items : IsPermutation p (numbers us ++ others)
-  pub least : All (λ y. All (λ x. x ≤ y) (numbers us)) others
+  pub least : Every (λ y. Every (λ x. x ≤ y) (numbers us)) others
   pub heap : Heaped Descending us
 
 -- x was offered to the first n of xs, of which k are kept at most, and this gave the first m of ys:

@@ -1,6 +1,6 @@
 -- A patch that is not admitted is neither in the finished list nor needed.
 use Rattle.std.proofs.Common.{◌≡◌, ℕ, suc, ◌-◌, ◌≤◌, Bool, true, false, cond, List, [], ◌∷◌, map, take, filter, sym, refl, ap, ◌∙◌, subst, arith}
-use Rattle.std.specs.List.{ContainsAt as Has, AllByRecursion as All}
+use Rattle.std.specs.List.{ContainsAt as Has, AllByRecursion as Every}
 use Rattle.std.proofs.ByRecursion.{all_kept_by, All-weaker, kept_by_passes, All-take, all-has}
 use Rattle.refine.specs.Chains.{Table, EachTwo}
 use Rattle.refine.specs.Scan.{final, ranking, full_scan, finished, needed, need}
@@ -40,7 +40,7 @@ module _ {A K : Type 0} (x : Table A K) where
 
   -- k admitted patches come before a patch that is within the radius and not admitted
   abbrev pub Admits : ℕ → (A → Bool) → List A → Type 0
-  Admits k adm l = All (λ a. adm a ≡ false → x.within (x.key a 0) ≡ true → k ≤ below x (x.key a 0) (filter adm l)) l
+  Admits k adm l = Every (λ a. adm a ≡ false → x.within (x.key a 0) ≡ true → k ≤ below x (x.key a 0) (filter adm l)) l
 
   module _ (k : ℕ) (adm : A → Bool) (l : List A) (t : Tame x l) (admits : Admits k adm l) where
     scan_kept : full_scan x (filter adm l) ≡ filter adm (full_scan x l)
@@ -52,7 +52,7 @@ module _ {A K : Type 0} (x : Table A K) where
         Fact : A → Type 0
         Fact a = Rising x a × (adm a ≡ false → x.within (x.key a 0) ≡ true → k ≤ below x (x.key a 0) (filter adm l))
 
-        facts : All (λ a. Fact a × (x.within (final x a) ≡ true)) (full_scan x l)
+        facts : Every (λ a. Fact a × (x.within (final x a) ≡ true)) (full_scan x l)
         facts = all_both Fact _ (full_scan x l) (all_kept_by _ _ (ranking x l) (perm_all _ (rank_perm x l) (all_both _ _ l t.rising admits))) (kept_by_passes _ (ranking x l))
 
         one : (a : A) → Fact a × (x.within (final x a) ≡ true) → adm a ≡ false → k ≤ below x (final x a) (filter adm (full_scan x l))
@@ -117,12 +117,12 @@ module _ {A K : Type 0} (x : Table A K) where
 
     -- a patch that is not admitted is not in the finished list, and none of its keys is needed
     pub not_listed : (a : A) → adm a ≡ false → Has (finished x (suc k) l) a → ⊥
-    not_listed a e h = clash (all-has _ (finished x (suc k) l) a (subst (All (λ b. adm b ≡ true)) (sym (first_kept (suc k) adm l t admits)) admitted_only) h)
+    not_listed a e h = clash (all-has _ (finished x (suc k) l) a (subst (Every (λ b. adm b ≡ true)) (sym (first_kept (suc k) adm l t admits)) admitted_only) h)
       where
         clash : adm a ≡ true → ⊥
         clash g = let z : ◌≡◌ {A = ℕ} 0 1 = cc in omega arith
 
-        admitted_only : All (λ b. adm b ≡ true) (take (suc k) (full_scan x (filter adm l)))
+        admitted_only : Every (λ b. adm b ≡ true) (take (suc k) (full_scan x (filter adm l)))
         admitted_only = All-take _ (suc k) _ (all_kept_by _ _ (ranking x (filter adm l)) (perm_all _ (rank_perm x (filter adm l)) (kept_by_passes adm l)))
 
     pub not_needed : (a : A) → Has l a → adm a ≡ false → (u : ℕ) → u ≤ x.m → needed x (suc k) l (x.key a u) ≡ false

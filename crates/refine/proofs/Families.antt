@@ -3,7 +3,7 @@ use Rattle.std.proofs.Common.{◌≡◌, ℕ, zero, suc, ◌+◌, ◌-◌, ◌<�
 use mathlib.Core.List.{IsPrefix}
 use mathlib.Core.Option.{Option, none, some}
 use lib.ListN.{get_elem?}
-use Rattle.std.specs.List.{AllByRecursion as All}
+use Rattle.std.specs.List.{AllByRecursion as Every}
 use Rattle.std.proofs.ByRecursion.{All-weaker, All-take, all_kept_by}
 use Rattle.refine.specs.Orders.{number_first, sorted_by}
 use Rattle.refine.specs.OrderLaws.{first_lt, first_eq, first_cases}
@@ -23,7 +23,7 @@ use Rattle.refine.proofs.Same.{runs_same, runs_shuffled}
 use Rattle.refine.proofs.Kth.{plain, rank_weak, kth_upon, number_rank}
 use Rattle.refine.proofs.Main.{sep_start, outcome, runs, plan_least, finished_alike}
 
-into_kept : {A : Type 0} (p : A → Bool) (f g : A → ℕ) (l : List A) → All (λ a. f a ≤ cond (p a) (g a) 0) l → adding f l ≤ adding g (filter p l)
+into_kept : {A : Type 0} (p : A → Bool) (f g : A → ℕ) (l : List A) → Every (λ a. f a ≤ cond (p a) (g a) 0) l → adding f l ≤ adding g (filter p l)
 into_kept p f g [] h = omega arith
 into_kept p f g (a ∷ l) h = go (p a) h.0 (into_kept p f g l h.1)
   where
@@ -125,7 +125,7 @@ bounds_only_delay A I f m bound upper l l' k R B B' p law law' h d b b' e e' r r
     g : Family A I
     g = rebound f m bound upper
 
-    alike : All (λ a. given f a ≡ given g a) (finished (table f R) k l)
+    alike : Every (λ a. given f a ≡ given g a) (finished (table f R) k l)
     alike = All-take _ k _ (all_kept_by _ _ (ranking (table f R) l) (perm_all _ (rank_perm (table f R) l) (All-weaker _ _ (λ a q. ap (λ n. (f.id a, n)) q) l d)))
 
     same_list : map (given f) (finished (table f R) k l) ≡ map (given g) (finished (table g R) k l')

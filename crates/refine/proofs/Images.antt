@@ -1,6 +1,6 @@
 -- A run over stand-ins (slots, say) is a run over what they stand for.
 use Rattle.std.proofs.Common.{◌≡◌, ℕ, Bool, true, false, List, ◌∷◌, map, sym, ap, ◌∙◌, subst, ap₂, arith}
-use Rattle.std.specs.List.{AllByRecursion as All}
+use Rattle.std.specs.List.{AllByRecursion as Every}
 use Rattle.std.proofs.lemmas.List.{length-map, map_push}
 use Rattle.std.proofs.ByRecursion.{All-map, All-weaker}
 use Rattle.refine.specs.Chains.{Table}
@@ -28,15 +28,15 @@ module _ {A B K : Type 0} (f : A → B) (y : Table B K) (key : A → ℕ → K) 
   le_same : (c d : Candidate A) → Agree c → Agree d → y.ord.le (key_now back c) (key_now back d) ≡ true → y.ord.le (key_now y (image_of c)) (key_now y (image_of d)) ≡ true
   le_same c d a e h = ap₂ y.ord.le (sym (a c.t)) (sym (e d.t)) ∙ h
 
-  least_same : (c : Candidate A) (rest : List (Candidate A)) → All Agree (c ∷ rest) → All (λ d. y.ord.le (key_now back c) (key_now back d) ≡ true) rest
-      → All (λ d. y.ord.le (key_now y (image_of c)) (key_now y d) ≡ true) (map image_of rest)
+  least_same : (c : Candidate A) (rest : List (Candidate A)) → Every Agree (c ∷ rest) → Every (λ d. y.ord.le (key_now back c) (key_now back d) ≡ true) rest
+      → Every (λ d. y.ord.le (key_now y (image_of c)) (key_now y d) ≡ true) (map image_of rest)
   least_same c rest a h = All-map _ image_of rest (All-weaker _ _ (λ d g. le_same c d a.0 g.0 g.1) rest (all_both _ _ rest a.1 h))
 
-  chosen_same : (s : State A) (c : Candidate A) (rest : List (Candidate A)) → All Agree (c ∷ rest) → Chosen back s c rest → Chosen y (image f s) (image_of c) (map image_of rest)
+  chosen_same : (s : State A) (c : Candidate A) (rest : List (Candidate A)) → Every Agree (c ∷ rest) → Chosen back s c rest → Chosen y (image f s) (image_of c) (map image_of rest)
   chosen_same s c rest a h = record { among = shuffled (perm_map image_of (reordered h.among)); first = least_same c rest a h.first }
 
   module _ (k N : ℕ) where
-    pub runs_image : (s : State A) {b : Bool} {e : State A} → All Agree s.live → Runs back k N s b e → Runs y k N (image f s) b (image f e)
+    pub runs_image : (s : State A) {b : Bool} {e : State A} → Every Agree s.live → Runs back k N s b e → Runs y k N (image f s) b (image f e)
     runs_image s a (finishes (full h)) = finishes (full (omega (arith, length-map s.named f)))
     runs_image s a (finishes (dry h)) = finishes (dry (All-map _ image_of s.live (All-weaker _ _ (λ c g. within_same c false g.0 g.1) s.live (all_both _ _ s.live a h))))
     runs_image s a (stops (halts c rest z l w t b)) =

@@ -3,7 +3,7 @@ use Rattle.std.proofs.Common.{◌≡◌, ℕ, zero, suc, ◌+◌, ◌-◌, ◌<�
 use mathlib.Core.Option.{none, some}
 use lib.ListN.{get_elem?}
 use borrow.Author.Tests.{eqb-false}
-use Rattle.std.specs.List.{AllByRecursion as All}
+use Rattle.std.specs.List.{AllByRecursion as Every}
 use Rattle.std.proofs.ByRecursion.{All-weaker}
 use Rattle.std.proofs.lemmas.List.Sorted.{length_permutation}
 use Rattle.std.proofs.lemmas.Bool.{cases_order, lt-leb}
@@ -20,7 +20,7 @@ plain = record { ord = numbers; key = λ n t. n; m = 0; within = λ n. true }
 
 abbrev pub Weak : List ℕ → Type 0
 Weak [] = Unit {0}
-Weak (a ∷ l) = All (λ b. a ≤ b) l × Weak l
+Weak (a ∷ l) = Every (λ b. a ≤ b) l × Weak l
 
 insert_weak : (a : ℕ) (l : List ℕ) → Weak l → Weak (insert plain a l)
 insert_weak a [] h = (tt, tt)
@@ -37,7 +37,7 @@ rank_weak (a ∷ l) = insert_weak a (sorted_by leb l) (rank_weak l)
 abbrev pub upon : ℕ → List ℕ → ℕ
 upon v l = adding (λ u. cond (leb u v) 1 0) l
 
-at_least : (a : ℕ) (l : List ℕ) (j v : ℕ) → All (λ b. a ≤ b) l → get_elem? l j ≡ some v → a ≤ v
+at_least : (a : ℕ) (l : List ℕ) (j v : ℕ) → Every (λ b. a ≤ b) l → get_elem? l j ≡ some v → a ≤ v
 at_least a [] j v h e = absurd (let z : ◌≡◌ {A = ℕ} 0 1 = cc in omega arith)
 at_least a (b ∷ l) zero v h e = let f : b ≡ v = cc in let g = h.0 in omega arith
 at_least a (b ∷ l) (suc j) v h e = at_least a l j v h.1 e
@@ -71,11 +71,11 @@ number_rank (chain p q) = number_rank p ∙ number_rank q
 abbrev under : ℕ → List ℕ → ℕ
 under v l = adding (λ u. cond (ltb u v) 1 0) l
 
-none_under : (v : ℕ) (l : List ℕ) → All (λ b. v ≤ b) l → under v l ≡ 0
+none_under : (v : ℕ) (l : List ℕ) → Every (λ b. v ≤ b) l → under v l ≡ 0
 none_under v [] h = refl
 none_under v (b ∷ l) h = let ih = none_under v l h.1 in rw (le-ltb b v h.0) (omega arith)
 
-none_upon : (v : ℕ) (l : List ℕ) → All (λ b. v < b) l → upon v l ≡ 0
+none_upon : (v : ℕ) (l : List ℕ) → Every (λ b. v < b) l → upon v l ≡ 0
 none_upon v [] h = refl
 none_upon v (b ∷ l) h = let ih = none_upon v l h.1 in rw (lt-leb b v h.0) (omega arith)
 

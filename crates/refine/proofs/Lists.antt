@@ -1,7 +1,7 @@
 -- Lists: sums and counts by recursion, each two, membership, filters, beginnings.
 use Rattle.std.proofs.Common.{◌≡◌, ℕ, zero, suc, ◌+◌, ◌-◌, ◌<◌, ◌≤◌, Bool, true, false, cond, ◌⊎◌, List, [], ◌∷◌, map, length, get_or, sum_by, count_by, filter, sym, refl, ap, ◌∙◌, subst, ap₂, inl, inr, add-one, arith}
 use mathlib.Core.List.{tail, map-append, IsPrefix}
-use Rattle.std.specs.List.{range_with_len, ContainsAt as Has, AllByRecursion as All}
+use Rattle.std.specs.List.{range_with_len, ContainsAt as Has, AllByRecursion as Every}
 use Rattle.std.proofs.ByRecursion.{all_kept_by, All-weaker, All-map}
 use Rattle.std.proofs.lemmas.List.Sums.{sum_by-cons}
 use Rattle.refine.specs.Chains.{EachTwo}
@@ -23,19 +23,19 @@ perm_adding f (skip p) = let e = perm_adding f p in omega arith
 perm_adding f swap = omega arith
 perm_adding f (chain p q) = perm_adding f p ∙ perm_adding f q
 
-pub adding_same : {A : Type 0} (f g : A → ℕ) (l : List A) → All (λ a. f a ≡ g a) l → adding f l ≡ adding g l
+pub adding_same : {A : Type 0} (f g : A → ℕ) (l : List A) → Every (λ a. f a ≡ g a) l → adding f l ≡ adding g l
 adding_same f g [] h = refl
 adding_same f g (a ∷ l) h = let e = adding_same f g l h.1 in let d = h.0 in omega arith
 
-pub adding_le : {A : Type 0} (f g : A → ℕ) (l : List A) → All (λ a. f a ≤ g a) l → adding f l ≤ adding g l
+pub adding_le : {A : Type 0} (f g : A → ℕ) (l : List A) → Every (λ a. f a ≤ g a) l → adding f l ≤ adding g l
 adding_le f g [] h = omega arith
 adding_le f g (a ∷ l) h = let e = adding_le f g l h.1 in let d = h.0 in omega arith
 
-pub adding_zero : {A : Type 0} (f : A → ℕ) (l : List A) → All (λ a. f a ≡ 0) l → adding f l ≡ 0
+pub adding_zero : {A : Type 0} (f : A → ℕ) (l : List A) → Every (λ a. f a ≡ 0) l → adding f l ≡ 0
 adding_zero f [] h = refl
 adding_zero f (a ∷ l) h = let e = adding_zero f l h.1 in let d = h.0 in omega arith
 
-pub adding_kept : {A : Type 0} (p : A → Bool) (f : A → ℕ) (l : List A) → All (λ a. p a ≡ false → f a ≡ 0) l → adding f (filter p l) ≡ adding f l
+pub adding_kept : {A : Type 0} (p : A → Bool) (f : A → ℕ) (l : List A) → Every (λ a. p a ≡ false → f a ≡ 0) l → adding f (filter p l) ≡ adding f l
 adding_kept p f [] h = refl
 adding_kept p f (a ∷ l) h = go (p a) refl (adding_kept p f l h.1)
   where
@@ -91,11 +91,11 @@ passing_le p c (suc d) t h le = go (c - t) refl (λ k. passing_le p c d (suc t) 
 
 -- ---- each element, each two
 
-pub all_by : {A : Type 0} {P : A → Type 0} → ((a : A) → P a) → (l : List A) → All P l
+pub all_by : {A : Type 0} {P : A → Type 0} → ((a : A) → P a) → (l : List A) → Every P l
 all_by f [] = tt
 all_by f (a ∷ l) = (f a, all_by f l)
 
-pub all_both : {A : Type 0} (P Q : A → Type 0) (l : List A) → All P l → All Q l → All (λ a. P a × Q a) l
+pub all_both : {A : Type 0} (P Q : A → Type 0) (l : List A) → Every P l → Every Q l → Every (λ a. P a × Q a) l
 all_both P Q [] h g = tt
 all_both P Q (a ∷ l) h g = ((h.0, g.0), all_both P Q l h.1 g.1)
 
@@ -133,7 +133,7 @@ has_cases a b l h = go h.0 h.1 h.2
 pub has_none : {A : Type 0} (a : A) → Has [] a → ⊥
 has_none a h = omega (arith, h.1)
 
-pub all_from_has : {A : Type 0} (P : A → Type 0) (l : List A) → ((a : A) → Has l a → P a) → All P l
+pub all_from_has : {A : Type 0} (P : A → Type 0) (l : List A) → ((a : A) → Has l a → P a) → Every P l
 all_from_has P [] h = tt
 all_from_has P (a ∷ l) h = (h a (has_here a a l refl), all_from_has P l (λ b i. h b (has_there b a l i)))
 
@@ -149,7 +149,7 @@ has_kept p (b ∷ l) a i h = go (p b) refl (has_cases a b l i) (λ j. has_kept p
 
 -- ---- filters, maps
 
-pub kept_none : {A : Type 0} (p : A → Bool) (l : List A) → All (λ a. p a ≡ false) l → filter p l ≡ []
+pub kept_none : {A : Type 0} (p : A → Bool) (l : List A) → Every (λ a. p a ≡ false) l → filter p l ≡ []
 kept_none p [] h = refl
 kept_none p (a ∷ l) h = let e = h.0 in let f = kept_none p l h.1 in cc
 
@@ -157,7 +157,7 @@ pub kept_swap : {A : Type 0} (p q : A → Bool) (l : List A) → filter p (filte
 kept_swap p q [] = refl
 kept_swap p q (a ∷ l) = let ih = kept_swap p q l in grind arith
 
-pub map_same : {X Y : Type 0} (f g : X → Y) (l : List X) → All (λ x. f x ≡ g x) l → map f l ≡ map g l
+pub map_same : {X Y : Type 0} (f g : X → Y) (l : List X) → Every (λ x. f x ≡ g x) l → map f l ≡ map g l
 map_same f g [] h = refl
 map_same f g (x ∷ l) h = ap₂ (λ y r. y ∷ r) h.0 (map_same f g l h.1)
 

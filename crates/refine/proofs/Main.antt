@@ -2,7 +2,7 @@
 use Rattle.std.proofs.Common.{◌≡◌, ℕ, suc, ◌+◌, ◌*◌, ◌<◌, ◌≤◌, Bool, true, false, cond, ◌&&◌, List, [], ◌∷◌, map, length, take, filter, sym, refl, ap, ◌∙◌, append-nil, arith}
 use mathlib.Core.Bool.{false≢true}
 use mathlib.Core.Option.{Option, none, some}
-use Rattle.std.specs.List.{ContainsAt as Has, AllByRecursion as All}
+use Rattle.std.specs.List.{ContainsAt as Has, AllByRecursion as Every}
 use Rattle.std.proofs.ByRecursion.{all_kept_by, All-weaker, All-map, kept_by_passes, All-take, all-has, has_shuffled}
 use Rattle.refine.specs.Chains.{Table, EachTwo}
 use Rattle.refine.specs.Scan.{final, ranking, full_scan, finished, not_after, needed, need}
@@ -19,7 +19,7 @@ use Rattle.refine.proofs.Admit.{Admits, first_kept, need_is, need_adds, patches_
 
 module _ {A K : Type 0} (x : Table A K) where
   module _ (k : ℕ) (adm : A → Bool) (l : List A) (t : Tame x l) where
-    good_start : All (Good x) (start adm l).live
+    good_start : Every (Good x) (start adm l).live
     good_start = All-map _ _ (filter adm l) (all_kept_by adm _ l (All-weaker _ _ (λ a r. (omega arith, r)) l t.rising))
 
     pub sep_start : EachTwo (Sep x) (start adm l).live
@@ -100,19 +100,19 @@ module _ {A K : Type 0} (x : Table A K) (key' : A → ℕ → K) (m' : ℕ) wher
   abbrev pub other : Table A K
   other = record { ord = x.ord; key = key'; m = m'; within = x.within }
 
-  insert_alike : (a : A) (l : List A) → final x a ≡ final other a → All (λ b. final x b ≡ final other b) l → insert x a l ≡ insert other a l
+  insert_alike : (a : A) (l : List A) → final x a ≡ final other a → Every (λ b. final x b ≡ final other b) l → insert x a l ≡ insert other a l
   insert_alike a [] e h = refl
   insert_alike a (b ∷ l) e h = let f = h.0 in let ih = insert_alike a l e h.1 in cc
 
-  rank_alike : (l : List A) → All (λ b. final x b ≡ final other b) l → ranking x l ≡ ranking other l
+  rank_alike : (l : List A) → Every (λ b. final x b ≡ final other b) l → ranking x l ≡ ranking other l
   rank_alike [] h = refl
   rank_alike (a ∷ l) h = insert_alike a (ranking x l) h.0 (perm_all _ (rank_perm x l) h.1) ∙ ap (insert other a) (rank_alike l h.1)
 
-  kept_alike : (l : List A) → All (λ b. final x b ≡ final other b) l → filter (λ a. x.within (final x a)) l ≡ filter (λ a. x.within (final other a)) l
+  kept_alike : (l : List A) → Every (λ b. final x b ≡ final other b) l → filter (λ a. x.within (final x a)) l ≡ filter (λ a. x.within (final other a)) l
   kept_alike [] h = refl
   kept_alike (a ∷ l) h = let e = h.0 in let ih = kept_alike l h.1 in cc
 
-  pub finished_alike : (k : ℕ) {l l' : List A} → Reordered l l' → EachTwo (Apart x) l → All (λ b. final x b ≡ final other b) l → finished x k l ≡ finished other k l'
+  pub finished_alike : (k : ℕ) {l l' : List A} → Reordered l l' → EachTwo (Apart x) l → Every (λ b. final x b ≡ final other b) l → finished x k l ≡ finished other k l'
   finished_alike k {l} {l'} p h f =
       let f' = perm_all (λ b. final x b ≡ final other b) p f in
       ap (λ v. take k (filter (λ a. x.within (final x a)) v)) (rank_same x p (two_weaker _ _ (λ a b g. g x.m x.m) l h))

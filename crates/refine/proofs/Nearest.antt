@@ -1,6 +1,6 @@
 -- The finished list is the k nearest.
 use Rattle.std.proofs.Common.{◌≡◌, ℕ, zero, suc, ◌≤◌, Bool, true, false, ◌⊎◌, List, [], ◌∷◌, length, take, sym, refl, ap, ◌∙◌, ap₂, inl, inr, arith}
-use Rattle.std.specs.List.{ContainsAt as Has, AllByRecursion as All}
+use Rattle.std.specs.List.{ContainsAt as Has, AllByRecursion as Every}
 use Rattle.std.proofs.ByRecursion.{All-weaker, All-take, all_kept_by, kept_by_passes, all-has, all_has_itself, has_shuffled}
 use Rattle.std.proofs.lemmas.List.{length-take}
 use Rattle.refine.specs.Chains.{Table, EachTwo}
@@ -19,13 +19,13 @@ module _ {A K : Type 0} (x : Table A K) where
   rises (suc k) (a ∷ w) s = (All-take _ k w s.0, rises k w s.1)
 
   -- what the first k of a rising list leave out comes after all of them
-  later : (k : ℕ) (w : List A) (a : A) → Ascending x w → Has w a → (Has (take k w) a → ⊥) → (length (take k w) ≡ k) × All (λ b. x.ord.le (final x b) (final x a) ≡ true) (take k w)
+  later : (k : ℕ) (w : List A) (a : A) → Ascending x w → Has w a → (Has (take k w) a → ⊥) → (length (take k w) ≡ k) × Every (λ b. x.ord.le (final x b) (final x a) ≡ true) (take k w)
   later zero w a s i n = (refl, tt)
   later (suc k) [] a s i n = absurd (has_none a i)
   later (suc k) (b ∷ w) a s i n = go (has_cases a b w i) (later k w a s.1)
     where
-      go : (b ≡ a) ⊎ Has w a → (Has w a → (Has (take k w) a → ⊥) → (length (take k w) ≡ k) × All (λ b. x.ord.le (final x b) (final x a) ≡ true) (take k w))
-          → (suc (length (take k w)) ≡ suc k) × All (λ b. x.ord.le (final x b) (final x a) ≡ true) (b ∷ take k w)
+      go : (b ≡ a) ⊎ Has w a → (Has w a → (Has (take k w) a → ⊥) → (length (take k w) ≡ k) × Every (λ b. x.ord.le (final x b) (final x a) ≡ true) (take k w))
+          → (suc (length (take k w)) ≡ suc k) × Every (λ b. x.ord.le (final x b) (final x a) ≡ true) (b ∷ take k w)
       go (inl e) more = absurd (n (has_here a b (take k w) e))
       go (inr j) more =
           let r = more j (λ h. n (has_there a b (take k w) h)) in
@@ -44,8 +44,8 @@ module _ {A K : Type 0} (x : Table A K) where
   clash t h g = let z : ◌≡◌ {A = ℕ} 0 1 = cc in omega arith
 
   -- a list that rises, is of w, and leaves out of w only what comes after it, is a beginning of w
-  only : (k : ℕ) (w r : List A) → Ascending x w → EachTwo (λ a b. x.ord.le (final x b) (final x a) ≡ false) r → All (Has w) r → length r ≤ k
-      → ((a : A) → Has w a → (Has r a → ⊥) → (length r ≡ k) × All (λ b. x.ord.le (final x b) (final x a) ≡ true) r) → r ≡ take k w
+  only : (k : ℕ) (w r : List A) → Ascending x w → EachTwo (λ a b. x.ord.le (final x b) (final x a) ≡ false) r → Every (Has w) r → length r ≤ k
+      → ((a : A) → Has w a → (Has r a → ⊥) → (length r ≡ k) × Every (λ b. x.ord.le (final x b) (final x a) ≡ true) r) → r ≡ take k w
   only zero [] [] s t h n f = refl
   only (suc k) [] [] s t h n f = refl
   only k [] (c ∷ r) s t h n f = absurd (has_none c h.0)
@@ -55,7 +55,7 @@ module _ {A K : Type 0} (x : Table A K) where
   only (suc k) (a ∷ w) (c ∷ r) s t h n f = go (has_cases c a w h.0) (only k w r s.1 t.1)
     where
       -- the first of r is the first of w
-      same_first : a ≡ c → All (Has w) r × ((b : A) → Has w b → (Has r b → ⊥) → (length r ≡ k) × All (λ d. x.ord.le (final x d) (final x b) ≡ true) r)
+      same_first : a ≡ c → Every (Has w) r × ((b : A) → Has w b → (Has r b → ⊥) → (length r ≡ k) × Every (λ d. x.ord.le (final x d) (final x b) ≡ true) r)
       same_first e = (All-weaker _ _ (λ d g. held d g.0 g.1) r (all_both _ _ r h.1 t.0), after)
         where
           held : (d : A) → Has (a ∷ w) d → x.ord.le (final x d) (final x c) ≡ false → Has w d
@@ -64,7 +64,7 @@ module _ {A K : Type 0} (x : Table A K) where
           not_in : (b : A) → Has w b → (Has r b → ⊥) → Has (c ∷ r) b → ⊥
           not_in b i m j = elim (has_cases b c r j) [ inl p ↦ clash _ (ap (λ u. x.ord.le (final x u) (final x a)) (sym (e ∙ p)) ∙ le_refl x.ord (final x a)) (all-has _ w b s.0 i) | inr q ↦ m q ]
 
-          after : (b : A) → Has w b → (Has r b → ⊥) → (length r ≡ k) × All (λ d. x.ord.le (final x d) (final x b) ≡ true) r
+          after : (b : A) → Has w b → (Has r b → ⊥) → (length r ≡ k) × Every (λ d. x.ord.le (final x d) (final x b) ≡ true) r
           after b i m = let q = f b (has_there b a w i) (not_in b i m) in ((let z = q.0 in omega arith), q.1.1)
 
       -- it is no later one of w: the first of w would be left out
@@ -77,7 +77,7 @@ module _ {A K : Type 0} (x : Table A K) where
           out : Has (c ∷ r) a → ⊥
           out i = elim (has_cases a c r i) [ inl p ↦ clash _ (ap (λ u. x.ord.le (final x u) (final x a)) p ∙ le_refl x.ord (final x a)) lt | inr q ↦ clash _ (x.ord.connected (final x c) (final x a) lt) (all-has _ r a t.0 q) ]
 
-      go : (a ≡ c) ⊎ Has w c → (All (Has w) r → length r ≤ k → ((b : A) → Has w b → (Has r b → ⊥) → (length r ≡ k) × All (λ d. x.ord.le (final x d) (final x b) ≡ true) r) → r ≡ take k w) → c ∷ r ≡ a ∷ take k w
+      go : (a ≡ c) ⊎ Has w c → (Every (Has w) r → length r ≤ k → ((b : A) → Has w b → (Has r b → ⊥) → (length r ≡ k) × Every (λ d. x.ord.le (final x d) (final x b) ≡ true) r) → r ≡ take k w) → c ∷ r ≡ a ∷ take k w
       go (inl e) more = let q = same_first e in ap₂ (λ y l. y ∷ l) (sym e) (more q.0 (omega arith) q.1)
       go (inr j) more = absurd (later_first j)
 

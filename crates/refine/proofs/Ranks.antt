@@ -1,6 +1,6 @@
 -- The full scan: a strictly rising list, the same for each order of the patches.
 use Rattle.std.proofs.Common.{◌≡◌, Bool, true, false, cond, List, [], ◌∷◌, filter, sym, refl, ap, ◌∙◌, arith}
-use Rattle.std.specs.List.{AllByRecursion as All}
+use Rattle.std.specs.List.{AllByRecursion as Every}
 use Rattle.refine.specs.Orders.{Order, insert_by}
 use Rattle.refine.specs.Chains.{Table, EachTwo}
 use Rattle.refine.specs.Scan.{final, ranking}
@@ -49,9 +49,9 @@ module _ {A K : Type 0} (x : Table A K) where
   -- strictly rising final keys
   abbrev pub Ascending : List A → Type 0
   Ascending [] = Unit {0}
-  Ascending (a ∷ l) = All (λ b. x.ord.le (final x b) (final x a) ≡ false) l × Ascending l
+  Ascending (a ∷ l) = Every (λ b. x.ord.le (final x b) (final x a) ≡ false) l × Ascending l
 
-  pub insert_ascending : (a : A) (l : List A) → All (Other a) l → Ascending l → Ascending (insert a l)
+  pub insert_ascending : (a : A) (l : List A) → Every (Other a) l → Ascending l → Ascending (insert a l)
   insert_ascending a [] h s = (tt, tt)
   insert_ascending a (b ∷ l) h s = go (x.ord.le (final x a) (final x b)) refl (insert_ascending a l h.1 s.1)
     where
@@ -74,7 +74,7 @@ module _ {A K : Type 0} (x : Table A K) where
   rank_same (swap {a = a} {b = b} {l = l}) h = insert_comm a b (ranking x l) h.0.0
   rank_same (chain p q) h = rank_same p h ∙ rank_same q (perm_two Other other_sym p h)
 
-  pub insert_least : (a : A) (l : List A) → All (λ b. x.ord.le (final x a) (final x b) ≡ true) l → insert a l ≡ a ∷ l
+  pub insert_least : (a : A) (l : List A) → Every (λ b. x.ord.le (final x a) (final x b) ≡ true) l → insert a l ≡ a ∷ l
   insert_least a [] h = refl
   insert_least a (b ∷ l) h = let e = h.0 in cc
 

@@ -2,7 +2,7 @@
 -- truncated; inductions want neither. The two conversions show that this is Shuffled.
 use Rattle.std.proofs.Common.{ℕ, zero, suc, ◌<◌, Bool, true, false, cond, List, [], ◌∷◌, map, length, get_or, set, filter, refl, arith}
 use Rattle.std.specs.List.Sorted.{IsPermutation}
-use Rattle.std.specs.List.{swap as exchanged, AllByRecursion as All}
+use Rattle.std.specs.List.{swap as exchanged, AllByRecursion as Every}
 use Rattle.std.proofs.lemmas.List.Sorted.{IsPermutation-keeps, IsPermutation-refl, IsPermutation-cons, IsPermutation-swap, IsPermutation-trans}
 use Rattle.refine.specs.Chains.{EachTwo}
 
@@ -43,7 +43,7 @@ perm_sym (skip p) = skip (perm_sym p)
 perm_sym swap = swap
 perm_sym (chain p q) = chain (perm_sym q) (perm_sym p)
 
-pub perm_all : {A : Type 0} (P : A → Type 0) {l l' : List A} → Reordered l l' → All P l → All P l'
+pub perm_all : {A : Type 0} (P : A → Type 0) {l l' : List A} → Reordered l l' → Every P l → Every P l'
 perm_all P same h = h
 perm_all P (skip p) h = (h.0, perm_all P p h.1)
 perm_all P swap h = (h.1.0, (h.0, h.1.1))

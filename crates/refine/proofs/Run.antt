@@ -1,6 +1,6 @@
 -- Where a run ends: by induction over its steps, from what is left to list and to measure.
 use Rattle.std.proofs.Common.{◌≡◌, ℕ, zero, suc, ◌+◌, ◌-◌, ◌<◌, ◌≤◌, Bool, true, false, ◌&&◌, List, [], ◌∷◌, ◌++◌, map, length, take, filter, sym, refl, ap, ◌∙◌, subst, subst₂, append_assoc, append-nil, arith, length-append}
-use Rattle.std.specs.List.{AllByRecursion as All}
+use Rattle.std.specs.List.{AllByRecursion as Every}
 use Rattle.std.proofs.ByRecursion.{all_kept_by, All-weaker, All-map}
 use Rattle.refine.specs.Chains.{Table, EachTwo}
 use Rattle.refine.specs.Scan.{final, ranking, full_scan}
@@ -30,7 +30,7 @@ module _ {A K : Type 0} (x : Table A K) where
   -- what a table must satisfy over the patches l
   pub record Tame (l : List A) : Type 0 where
     pub closed : Closed
-    pub rising : All Rising l
+    pub rising : Every Rising l
     pub apart : EachTwo Apart l
 
   -- a step's candidate, and the others
@@ -83,42 +83,42 @@ module _ {A K : Type 0} (x : Table A K) where
   left_none : (l : List (Candidate A)) → left 0 l ≡ 0
   left_none l = adding_zero _ l (all_here l)
     where
-      all_here : (l' : List (Candidate A)) → All (λ c. due 0 (full_scan x (patches l)) c ≡ 0) l'
+      all_here : (l' : List (Candidate A)) → Every (λ c. due 0 (full_scan x (patches l)) c ≡ 0) l'
       all_here [] = tt
       all_here (c ∷ l') = (passing_none _ (x.m - c.t) c.t (λ u g k. grind arith), all_here l')
 
   module _ (closed : Closed) where
-    dry_left : (k : ℕ) (w : List A) (l : List (Candidate A)) → All Good l → All (λ c. x.within (key_now x c) ≡ false) l → adding (due k w) l ≡ 0
+    dry_left : (k : ℕ) (w : List A) (l : List (Candidate A)) → Every Good l → Every (λ c. x.within (key_now x c) ≡ false) l → adding (due k w) l ≡ 0
     dry_left k w l g h = adding_zero _ l (All-weaker _ _ one l (all_both Good _ l g h))
       where
         one : (c : Candidate A) → Good c × (x.within (key_now x c) ≡ false) → due k w c ≡ 0
         one c h = passing_none _ (x.m - c.t) c.t (λ u i j.
             let e = outside closed _ _ (climbs c.patch h.0.1 c.t u i (omega arith)) h.1 in grind arith)
 
-    dry_scan : (l : List (Candidate A)) → All Good l → All (λ c. x.within (key_now x c) ≡ false) l → full_scan x (patches l) ≡ []
+    dry_scan : (l : List (Candidate A)) → Every Good l → Every (λ c. x.within (key_now x c) ≡ false) l → full_scan x (patches l) ≡ []
     dry_scan l g h = kept_none _ (ranking x (patches l)) (perm_all _ (rank_perm x (patches l)) (All-map _ _ l (All-weaker _ _ one l (all_both Good _ l g h))))
       where
         one : (c : Candidate A) → Good c × (x.within (key_now x c) ≡ false) → x.within (final x c.patch) ≡ false
         one c h = outside closed _ _ (climbs c.patch h.0.1 c.t x.m h.0.0 (omega arith)) h.1
 
     -- the least candidate comes before every final key
-    before_finals : (c : Candidate A) (l : List (Candidate A)) → All Good l → All (λ d. x.ord.le (key_now x c) (key_now x d) ≡ true) l → All (λ a. x.ord.le (key_now x c) (final x a) ≡ true) (ranking x (patches l))
+    before_finals : (c : Candidate A) (l : List (Candidate A)) → Every Good l → Every (λ d. x.ord.le (key_now x c) (key_now x d) ≡ true) l → Every (λ a. x.ord.le (key_now x c) (final x a) ≡ true) (ranking x (patches l))
     before_finals c l g h = perm_all _ (rank_perm x (patches l)) (All-map _ _ l (All-weaker _ _ one l (all_both Good _ l g h)))
       where
         one : (d : Candidate A) → Good d × (x.ord.le (key_now x c) (key_now x d) ≡ true) → x.ord.le (key_now x c) (final x d.patch) ≡ true
         one d h = x.ord.transitive _ _ _ h.1 (climbs d.patch h.0.1 d.t x.m h.0.0 (omega arith))
 
     -- a wholly measured least candidate is the first of the ranking
-    names_scan : (c : Candidate A) (l : List (Candidate A)) → All Good l → All (λ d. x.ord.le (key_now x c) (key_now x d) ≡ true) l
+    names_scan : (c : Candidate A) (l : List (Candidate A)) → Every Good l → Every (λ d. x.ord.le (key_now x c) (key_now x d) ≡ true) l
         → x.within (key_now x c) ≡ true → c.t ≡ x.m → full_scan x (patches (c ∷ l)) ≡ c.patch ∷ full_scan x (patches l)
     names_scan c l g h w e =
-        let f = insert_least x c.patch (ranking x (patches l)) (subst (λ y. All (λ a. x.ord.le y (final x a) ≡ true) (ranking x (patches l))) (ap (x.key c.patch) e) (before_finals c l g h)) in
+        let f = insert_least x c.patch (ranking x (patches l)) (subst (λ y. Every (λ a. x.ord.le y (final x a) ≡ true) (ranking x (patches l))) (ap (x.key c.patch) e) (before_finals c l g h)) in
         let w' : x.within (final x c.patch) ≡ true = rw e at w in
         rw f (rw w' refl)
 
     -- and what is left to measure stays the same without it
-    names_left : (k : ℕ) (c : Candidate A) (l : List (Candidate A)) → All Good l → All (λ d. x.ord.le (key_now x c) (key_now x d) ≡ true) l
-        → All (Sep c) l → x.within (key_now x c) ≡ true → c.t ≡ x.m → left (suc k) (c ∷ l) ≡ left k l
+    names_left : (k : ℕ) (c : Candidate A) (l : List (Candidate A)) → Every Good l → Every (λ d. x.ord.le (key_now x c) (key_now x d) ≡ true) l
+        → Every (Sep c) l → x.within (key_now x c) ≡ true → c.t ≡ x.m → left (suc k) (c ∷ l) ≡ left k l
     names_left k c l g h s w e =
         let r = names_scan c l g h w e in
         let z : due (suc k) (full_scan x (patches (c ∷ l))) c ≡ 0 = none_due (suc k) (full_scan x (patches (c ∷ l))) in
@@ -144,7 +144,7 @@ module _ {A K : Type 0} (x : Table A K) where
                 go true q = absurd (h.1.1 c.t u (x.ord.antisymmetric _ _ h₁ q))
 
     -- the next channel of the least candidate is needed
-    measures_left : (k : ℕ) (c : Candidate A) (l : List (Candidate A)) → Good c → All Good l → All (λ d. x.ord.le (key_now x c) (key_now x d) ≡ true) l
+    measures_left : (k : ℕ) (c : Candidate A) (l : List (Candidate A)) → Good c → Every Good l → Every (λ d. x.ord.le (key_now x c) (key_now x d) ≡ true) l
         → x.within (key_now x c) ≡ true → c.t < x.m → left (suc k) (c ∷ l) ≡ suc (left (suc k) (record { patch = c.patch; t = suc c.t } ∷ l))
     measures_left k c l gc g h w i =
         let n : x.m - c.t ≡ suc (x.m - suc c.t) = omega arith in
@@ -162,7 +162,7 @@ module _ {A K : Type 0} (x : Table A K) where
       lt_of h g = omega arith
 
       pub ends : {s e : State A} {b : Bool} → Runs x k B s b e → (n : ℕ) → n + length s.named ≡ k → s.measured ≤ B
-          → All Good s.live → EachTwo Sep s.live
+          → Every Good s.live → EachTwo Sep s.live
           → Ending b (s.named ++ take n (full_scan x (patches s.live))) (s.measured + left n s.live) e
       ends (finishes {s = s} (full h)) n q m g p =
           let z : n ≡ 0 = omega arith in

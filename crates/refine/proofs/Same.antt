@@ -1,7 +1,7 @@
 -- A run's answer does not hang on the order in which the candidates are kept.
 use Rattle.std.proofs.Common.{◌≡◌, ℕ, suc, ◌<◌, ◌≤◌, Bool, true, false, ◌⊎◌, List, [], ◌∷◌, ◌++◌, length, sym, refl, ap, ◌∙◌, subst, ap₂, inl, inr, arith}
 use Rattle.std.specs.List.Sorted.{IsPermutation}
-use Rattle.std.specs.List.{AllByRecursion as All}
+use Rattle.std.specs.List.{AllByRecursion as Every}
 use Rattle.std.proofs.lemmas.List.Sorted.{IsPermutation-sym, IsPermutation-trans, IsPermutation-refl}
 use Rattle.std.proofs.ByRecursion.{all_shuffled}
 use Rattle.refine.specs.Chains.{Table, EachTwo}
@@ -26,7 +26,7 @@ perm_ins a (chain p q) i =
     let v = perm_ins a q u.1 in
     (v.0, v.1, chain u.2 v.2)
 
-ins_all : {A : Type 0} (P : A → Type 0) (a : A) {r l : List A} → Ins a r l → All P l → P a
+ins_all : {A : Type 0} (P : A → Type 0) (a : A) {r l : List A} → Ins a r l → Every P l → P a
 ins_all P a here h = h.0
 ins_all P a (there i) h = ins_all P a i h.1
 
@@ -39,8 +39,8 @@ module _ {A K : Type 0} (x : Table A K) where
   sep_sym c d h t u e = h u t (sym e)
 
   -- the least candidate is one, and so are the others
-  one_least : (c c' : Candidate A) (l l' : List (Candidate A)) → Reordered (c ∷ l) (c' ∷ l') → All (λ d. x.ord.le (key_now x c) (key_now x d) ≡ true) l
-      → All (λ d. x.ord.le (key_now x c') (key_now x d) ≡ true) l' → EachTwo (Sep x) (c ∷ l) → (c ≡ c') × Reordered l l'
+  one_least : (c c' : Candidate A) (l l' : List (Candidate A)) → Reordered (c ∷ l) (c' ∷ l') → Every (λ d. x.ord.le (key_now x c) (key_now x d) ≡ true) l
+      → Every (λ d. x.ord.le (key_now x c') (key_now x d) ≡ true) l' → EachTwo (Sep x) (c ∷ l) → (c ≡ c') × Reordered l l'
   one_least c c' l l' p h h' s = pick (perm_ins c p here)
     where
       pick : (r : List (Candidate A)) × Ins c r (c' ∷ l') × Reordered l r → (c ≡ c') × Reordered l l'
@@ -88,10 +88,10 @@ module _ {A K : Type 0} (x : Table A K) where
     clash : (t : Bool) → t ≡ true → t ≡ false → ⊥
     clash t h g = let z : ◌≡◌ {A = ℕ} 0 1 = cc in omega arith
 
-    not_dry : (s s' : State A) (c : Candidate A) (l : List (Candidate A)) → Like s s' → All (λ c. x.within (key_now x c) ≡ false) s.live → Reordered s'.live (c ∷ l) → x.within (key_now x c) ≡ true → ⊥
+    not_dry : (s s' : State A) (c : Candidate A) (l : List (Candidate A)) → Like s s' → Every (λ c. x.within (key_now x c) ≡ false) s.live → Reordered s'.live (c ∷ l) → x.within (key_now x c) ≡ true → ⊥
     not_dry s s' c l y h p w = clash _ w (perm_all (λ c. x.within (key_now x c) ≡ false) (chain y.0 p) h).0
 
-    not_dry' : (s s' : State A) (c : Candidate A) (l : List (Candidate A)) → Like s s' → All (λ c. x.within (key_now x c) ≡ false) s'.live → Reordered s.live (c ∷ l) → x.within (key_now x c) ≡ true → ⊥
+    not_dry' : (s s' : State A) (c : Candidate A) (l : List (Candidate A)) → Like s s' → Every (λ c. x.within (key_now x c) ≡ false) s'.live → Reordered s.live (c ∷ l) → x.within (key_now x c) ≡ true → ⊥
     not_dry' s s' c l y h p w = clash _ w (perm_all (λ c. x.within (key_now x c) ≡ false) (chain (perm_sym y.0) p) h).0
 
     pub moves_match : (s s' : State A) {n n' : Next A} → Like s s' → EachTwo (Sep x) s.live → Move x k B s n → Move x k B s' n' → Match n n'

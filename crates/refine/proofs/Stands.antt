@@ -1,6 +1,6 @@
 -- A run over slots, by the numbers found there, is a run over the patches that lie there.
 use Rattle.std.proofs.Common.{◌≡◌, ℕ, Bool, true, false, cond, ◌&&◌, leb, List, [], ◌∷◌, map, length, filter, sym, refl, ap, ◌∙◌, subst, ap₂}
-use Rattle.std.specs.List.{AllByRecursion as All}
+use Rattle.std.specs.List.{AllByRecursion as Every}
 use Rattle.std.proofs.ByRecursion.{All-map, All-weaker, all_kept_by}
 use Rattle.std.proofs.lemmas.List.{length-map}
 use Rattle.refine.specs.Chains.{Family, table, kth_least, threshold, not_above, admitted}
@@ -8,7 +8,7 @@ use Rattle.refine.specs.Steps.{State, Runs, begin}
 use Rattle.refine.specs.Theorems.{stand_ins, image, StandInsRun}
 use Rattle.refine.proofs.Images.{image_of, runs_image}
 
-kept_map : {A B : Type 0} (f : A → B) (p : A → Bool) (p' : B → Bool) (l : List A) → All (λ a. p a ≡ p' (f a)) l → map f (filter p l) ≡ filter p' (map f l)
+kept_map : {A B : Type 0} (f : A → B) (p : A → Bool) (p' : B → Bool) (l : List A) → Every (λ a. p a ≡ p' (f a)) l → map f (filter p l) ≡ filter p' (map f l)
 kept_map f p p' [] h = refl
 kept_map f p p' (a ∷ l) h = go (p a) (p' (f a)) h.0 (kept_map f p p' l h.1)
   where
@@ -28,11 +28,11 @@ module _ {A B I : Type 0} (f : A → B) (g : Family B I) (id : A → I) (bound :
   abbrev pub Stands : A → Type 0
   Stands a = ((t : ℕ) → bound a t ≡ g.bound (f a) t) × (upper a ≡ g.upper (f a)) × (id a ≡ g.id (f a))
 
-  uppers_same : (l : List A) → All Stands l → map upper l ≡ map g.upper (map f l)
+  uppers_same : (l : List A) → Every Stands l → map upper l ≡ map g.upper (map f l)
   uppers_same [] h = refl
   uppers_same (a ∷ l) h = ap₂ (λ n r. n ∷ r) h.0.1 (uppers_same l h.1)
 
-  module _ (k R : ℕ) (l : List A) (h : All Stands l) where
+  module _ (k R : ℕ) (l : List A) (h : Every Stands l) where
     threshold_same : threshold own k l ≡ threshold g k (map f l)
     threshold_same = ap (kth_least k) (uppers_same l h)
 

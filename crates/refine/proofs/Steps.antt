@@ -1,7 +1,7 @@
 -- The run that is computed takes the steps of the relation, and ends.
 use Rattle.std.proofs.Common.{◌≡◌, ℕ, zero, suc, ◌-◌, ◌<◌, ◌≤◌, Bool, true, false, cond, not, eqb, leb, List, [], ◌∷◌, length, refl, arith}
 use mathlib.Core.Option.{some}
-use Rattle.std.specs.List.{AllByRecursion as All}
+use Rattle.std.specs.List.{AllByRecursion as Every}
 use Rattle.std.proofs.ByRecursion.{All-weaker}
 use Rattle.refine.specs.Chains.{Table}
 use Rattle.refine.specs.Steps.{Candidate, State, Next, done, halt, on, naming, measuring, key_now, least, step_at, step_among, step, onward, run, steps_left, Chosen, Move, full, dry, names, halts, measures, Runs, finishes, stops, goes}
@@ -19,12 +19,12 @@ module _ {A K : Type 0} (x : Table A K) where
       go true p = same
       go false p = chain (skip p) swap
 
-  least_first : (c : Candidate A) (l : List (Candidate A)) → All (λ d. x.ord.le (key_now x (least x c l).0) (key_now x d) ≡ true) (least x c l).1
+  least_first : (c : Candidate A) (l : List (Candidate A)) → Every (λ d. x.ord.le (key_now x (least x c l).0) (key_now x d) ≡ true) (least x c l).1
   least_first c [] = tt
   least_first c (d ∷ l) = go (x.ord.le (key_now x c) (key_now x (least x d l).0)) refl (least_first d l)
     where
-      go : (t : Bool) → x.ord.le (key_now x c) (key_now x (least x d l).0) ≡ t → All (λ e. x.ord.le (key_now x (least x d l).0) (key_now x e) ≡ true) (least x d l).1
-          → All (λ e. x.ord.le (key_now x (cond {A = Candidate A × List (Candidate A)} t (c, d ∷ l) ((least x d l).0, c ∷ (least x d l).1)).0) (key_now x e) ≡ true)
+      go : (t : Bool) → x.ord.le (key_now x c) (key_now x (least x d l).0) ≡ t → Every (λ e. x.ord.le (key_now x (least x d l).0) (key_now x e) ≡ true) (least x d l).1
+          → Every (λ e. x.ord.le (key_now x (cond {A = Candidate A × List (Candidate A)} t (c, d ∷ l) ((least x d l).0, c ∷ (least x d l).1)).0) (key_now x e) ≡ true)
           (cond {A = Candidate A × List (Candidate A)} t (c, d ∷ l) ((least x d l).0, c ∷ (least x d l).1)).1
       go true e h = perm_all _ (perm_sym (least_perm d l)) (e, All-weaker _ _ (λ f g. x.ord.transitive _ _ _ e g) (least x d l).1 h)
       go false e h = (x.ord.connected _ _ e, h)
@@ -33,7 +33,7 @@ module _ {A K : Type 0} (x : Table A K) where
   size l = adding (λ c. suc (x.m - c.t)) l
 
   module _ (closed : Closed x) (k B : ℕ) where
-    act_moves : (s : State A) (c : Candidate A) (l : List (Candidate A)) → Reordered s.live (c ∷ l) → All (λ d. x.ord.le (key_now x c) (key_now x d) ≡ true) l → Move x k B s (step_at x k B s c l)
+    act_moves : (s : State A) (c : Candidate A) (l : List (Candidate A)) → Reordered s.live (c ∷ l) → Every (λ d. x.ord.le (key_now x c) (key_now x d) ≡ true) l → Move x k B s (step_at x k B s c l)
     act_moves s c l p h = go (leb k (length s.named)) refl (x.within (key_now x c)) refl (eqb c.t x.m) refl (leb B s.measured) refl
       where
         pick : Chosen x s c l
@@ -55,7 +55,7 @@ module _ {A K : Type 0} (x : Table A K) where
     lt_of : {a b : ℕ} → a ≤ b → (a ≡ b → ⊥) → a < b
     lt_of h g = omega arith
 
-    falls : {s s' : State A} → Move x k B s (on s') → All (λ c. c.t ≤ x.m) s.live → All (λ c. c.t ≤ x.m) s'.live × (size s'.live < size s.live)
+    falls : {s s' : State A} → Move x k B s (on s') → Every (λ c. c.t ≤ x.m) s.live → Every (λ c. c.t ≤ x.m) s'.live × (size s'.live < size s.live)
     falls (names c l y f w t) g = ((perm_all _ (picked x y) g).1, omega (arith, perm_adding (λ c. suc (x.m - c.t)) (picked x y)))
     falls (measures c l y f w t h) g =
         let g' = perm_all _ (picked x y) g in
@@ -65,7 +65,7 @@ module _ {A K : Type 0} (x : Table A K) where
     pub step_moves : (s : State A) → Move x k B s (step x k B s)
     step_moves s = choose_moves s s.live refl
 
-    pub shrinks : {s s' : State A} → Move x k B s (on s') → All (λ c. c.t ≤ x.m) s.live → All (λ c. c.t ≤ x.m) s'.live × (steps_left x s' < steps_left x s)
+    pub shrinks : {s s' : State A} → Move x k B s (on s') → Every (λ c. c.t ≤ x.m) s.live → Every (λ c. c.t ≤ x.m) s'.live × (steps_left x s' < steps_left x s)
     shrinks {s} {s'} v g =
         let f = falls v g in
         let a = adding_is (λ c. suc (x.m - c.t)) s.live in
@@ -73,12 +73,12 @@ module _ {A K : Type 0} (x : Table A K) where
         (f.0, omega (arith, f.1))
 
     -- the run ends
-    pub run_ends : (n : ℕ) (s : State A) → All (λ c. c.t ≤ x.m) s.live → size s.live < n
+    pub run_ends : (n : ℕ) (s : State A) → Every (λ c. c.t ≤ x.m) s.live → size s.live < n
         → (b : Bool) × (e : State A) × (run x k B n s ≡ some (b, e)) × Runs x k B s b e
     run_ends zero s g h = absurd (omega arith)
     run_ends (suc n) s g h = go (step x k B s) (step_moves s) (λ s' g' h'. run_ends n s' g' h')
       where
-        go : (w : Next A) → Move x k B s w → ((s' : State A) → All (λ c. c.t ≤ x.m) s'.live → size s'.live < n → (b : Bool) × (e : State A) × (run x k B n s' ≡ some (b, e)) × Runs x k B s' b e)
+        go : (w : Next A) → Move x k B s w → ((s' : State A) → Every (λ c. c.t ≤ x.m) s'.live → size s'.live < n → (b : Bool) × (e : State A) × (run x k B n s' ≡ some (b, e)) × Runs x k B s' b e)
             → (b : Bool) × (e : State A) × (onward x s (λ s'. run x k B n s') w ≡ some (b, e)) × Runs x k B s b e
         go done v ih = (true, s, refl, finishes v)
         go halt v ih = (false, s, refl, stops v)

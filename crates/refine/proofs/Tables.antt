@@ -1,7 +1,7 @@
 -- The tables of a question: lawful chains, whose finished list is the full scan; and one full scan for all indexes that measure alike.
 use Rattle.std.proofs.Common.{◌≡◌, ℕ, zero, suc, ◌+◌, ◌*◌, ◌<◌, ◌≤◌, leb, List, [], ◌∷◌, map, length, get_or, take, drop, sum_by, sym, refl, ap, ◌∙◌, subst, ap₂, arith, take_all}
 use mathlib.Core.List.{IsPrefix}
-use Rattle.std.specs.List.{range_with_len, AllByRecursion as All}
+use Rattle.std.specs.List.{range_with_len, AllByRecursion as Every}
 use Rattle.std.proofs.ByRecursion.{All-weaker, All-take, all_kept_by}
 use Rattle.std.proofs.lemmas.List.Sums.{sum_by_more}
 use Rattle.metric.specs.Model.{Model, Row}
@@ -46,7 +46,7 @@ module _ (ms : List Model) (s : Contents) (q : Question) (ok : Posed ms s q) whe
         weight = omega (arith, ok.fits.small c);
       }
 
-  chains : LawfulFamily (family ms q s.pivots) s.patches × All (λ o. distance (family ms q s.pivots) o ≡ distance_to ms q o) s.patches
+  chains : LawfulFamily (family ms q s.pivots) s.patches × Every (λ o. distance (family ms q s.pivots) o ≡ distance_to ms q o) s.patches
   chains = channels_to_chains Patch ℕ numbers (λ (o : Patch). o.accession) q.aggregate (length ms) (channels ms q s.pivots) s.patches
       ok.aggregate ok.some ok.few (All-weaker _ _ bracketed s.patches ok.sound.patches) ok.sound.distinct
 
@@ -113,7 +113,7 @@ module _ (ms ms' : List Model) (s : Contents) (q q' : Question) (ok : Posed ms s
       key' : Patch → ℕ → ℕ × ℕ
       key' o t = (distance_to ms' q' o, o.accession)
 
-      neighbors : All (λ o. neighbor ms q o ≡ neighbor ms' q' o) s.patches
+      neighbors : Every (λ o. neighbor ms q o ≡ neighbor ms' q' o) s.patches
       neighbors = All-weaker _ _ (λ o u. ap (λ n. (o.accession, n)) (distances_same o u)) s.patches ok.sound.patches
 
       lists : finished (scanned ms s q ok) q.k s.patches ≡ finished (record { ord = keys numbers; key = key'; m = 0; within = λ y. leb y.0 q.radius }) q.k l'

@@ -1,6 +1,6 @@
 -- What is measured stays measured, and a step measures what it says.
 use Rattle.std.proofs.Common.{◌≡◌, ℕ, suc, Bool, ◌⊎◌, List, [], ◌∷◌, ◌++◌, refl, ap, inl, inr, arith}
-use Rattle.std.specs.List.{ContainsAt as Has, AllByRecursion as All}
+use Rattle.std.specs.List.{ContainsAt as Has, AllByRecursion as Every}
 use Rattle.std.proofs.ByRecursion.{All-push, has_append_left, has_push, has_shuffled, all_shuffled}
 use Rattle.refine.specs.Chains.{Table}
 use Rattle.refine.specs.Steps.{Candidate, State, on, naming, measuring, Move, names, measures, Runs, finishes, stops, goes, Taken}
@@ -34,7 +34,7 @@ module _ {A K : Type 0} (x : Table A K) (k budget : ℕ) where
   taken_end s (goes {s' = s'} m r) a u h = taken_end s' r a u (taken_step s s' m a u h)
 
   -- what holds of the candidates holds of the named
-  pub named_all : (P : A → Type 0) (s : State A) {b : Bool} {e : State A} → Runs x k budget s b e → All (λ (c : Candidate A). P c.patch) s.live → All P s.named → All P e.named
+  pub named_all : (P : A → Type 0) (s : State A) {b : Bool} {e : State A} → Runs x k budget s b e → Every (λ (c : Candidate A). P c.patch) s.live → Every P s.named → Every P e.named
   named_all P s (finishes m) l n = n
   named_all P s (stops m) l n = n
   named_all P s (goes {s' = s'} (names c rest y f w t) r) l n =

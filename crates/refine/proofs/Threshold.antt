@@ -1,7 +1,7 @@
 -- Which keys do not come after the k-th of a rising list.
 use Rattle.std.proofs.Common.{◌≡◌, ℕ, zero, suc, ◌+◌, ◌≤◌, Bool, true, false, cond, ◌⊎◌, List, [], ◌∷◌, take, filter, refl, ap, inl, inr, arith}
 use lib.ListN.{get_elem?}
-use Rattle.std.specs.List.{ContainsAt as Has, AllByRecursion as All}
+use Rattle.std.specs.List.{ContainsAt as Has, AllByRecursion as Every}
 use Rattle.std.proofs.ByRecursion.{all_kept_by, All-weaker, all-has}
 use Rattle.refine.specs.Chains.{Table}
 use Rattle.refine.specs.Scan.{final, not_after}
@@ -28,7 +28,7 @@ module _ {A K : Type 0} (x : Table A K) where
   upto_take (suc zero) (a ∷ l) y = refl
   upto_take (suc (suc k)) (a ∷ l) y = upto_take (suc k) l y
 
-  pub upto_true : (k : ℕ) (l : List A) (y : K) → All (λ a. x.ord.le y (final x a) ≡ true) l → upto (suc k) l y ≡ true
+  pub upto_true : (k : ℕ) (l : List A) (y : K) → Every (λ a. x.ord.le y (final x a) ≡ true) l → upto (suc k) l y ≡ true
   upto_true k [] y h = refl
   upto_true zero (a ∷ l) y h = h.0
   upto_true (suc k) (a ∷ l) y h = upto_true k l y h.1
@@ -37,12 +37,12 @@ module _ {A K : Type 0} (x : Table A K) where
   abbrev pub below : K → List A → ℕ
   below y l = adding (λ a. cond (x.ord.le y (final x a)) 0 1) l
 
-  pub below_none : (y : K) (l : List A) → All (λ a. x.ord.le y (final x a) ≡ true) l → below y l ≡ 0
+  pub below_none : (y : K) (l : List A) → Every (λ a. x.ord.le y (final x a) ≡ true) l → below y l ≡ 0
   below_none y [] h = refl
   below_none y (a ∷ l) h = let e = h.0 in let f = below_none y l h.1 in rw e (omega arith)
 
   -- what comes after the first comes after none of a rising list
-  pub from_first : (y : K) (a : A) (l : List A) → Ascending x (a ∷ l) → x.ord.le y (final x a) ≡ true → All (λ b. x.ord.le y (final x b) ≡ true) l
+  pub from_first : (y : K) (a : A) (l : List A) → Ascending x (a ∷ l) → x.ord.le y (final x a) ≡ true → Every (λ b. x.ord.le y (final x b) ≡ true) l
   from_first y a l s e = All-weaker _ _ (λ b g. x.ord.transitive _ _ _ e (x.ord.connected _ _ g)) l s.0
 
   pub upto_false : (k : ℕ) (l : List A) (y : K) → Ascending x l → k ≤ below y l → upto k l y ≡ false
@@ -74,7 +74,7 @@ module _ {A K : Type 0} (x : Table A K) where
       go (inl e) more = has_here a b (take (suc k) l) e
       go (inr j) more = has_there a b (take (suc k) l) (more j)
 
-  pub upto_first : (k : ℕ) (l : List A) → Ascending x l → All (λ a. upto k l (final x a) ≡ true) (take k l)
+  pub upto_first : (k : ℕ) (l : List A) → Ascending x l → Every (λ a. upto k l (final x a) ≡ true) (take k l)
   upto_first zero l s = tt
   upto_first (suc k) [] s = tt
   upto_first (suc zero) (a ∷ l) s = (le_refl x.ord (final x a), tt)
@@ -86,12 +86,12 @@ module _ {A K : Type 0} (x : Table A K) where
   cond_le false = omega arith
 
   -- to drop an element that k kept ones come before changes nothing of the first k
-  pub take_kept : (p : A → Bool) (k : ℕ) (l : List A) → Ascending x l → All (λ a. p a ≡ false → k ≤ below (final x a) (filter p l)) l → take k l ≡ take k (filter p l)
+  pub take_kept : (p : A → Bool) (k : ℕ) (l : List A) → Ascending x l → Every (λ a. p a ≡ false → k ≤ below (final x a) (filter p l)) l → take k l ≡ take k (filter p l)
   take_kept p k [] s h = refl
   take_kept p k (a ∷ l) s h = go (p a) refl k h (λ j. take_kept p j l s.1)
     where
-      go : (t : Bool) → p a ≡ t → (k : ℕ) → All (λ b. p b ≡ false → k ≤ below (final x b) (cond t (a ∷ filter p l) (filter p l))) (a ∷ l)
-          → ((j : ℕ) → All (λ b. p b ≡ false → j ≤ below (final x b) (filter p l)) l → take j l ≡ take j (filter p l))
+      go : (t : Bool) → p a ≡ t → (k : ℕ) → Every (λ b. p b ≡ false → k ≤ below (final x b) (cond t (a ∷ filter p l) (filter p l))) (a ∷ l)
+          → ((j : ℕ) → Every (λ b. p b ≡ false → j ≤ below (final x b) (filter p l)) l → take j l ≡ take j (filter p l))
           → take k (a ∷ l) ≡ take k (cond t (a ∷ filter p l) (filter p l))
       go true e zero h ih = refl
       go true e (suc k) h ih =

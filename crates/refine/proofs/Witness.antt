@@ -1,6 +1,6 @@
 -- The premises of the theorems can be met.
 use Rattle.std.proofs.Common.{ℕ, zero, suc, ◌<◌, [], ◌∷◌, length, get_or, refl, arith}
-use Rattle.std.specs.List.{AllByRecursion as All}
+use Rattle.std.specs.List.{AllByRecursion as Every}
 use Rattle.metric.specs.Model.{Row}
 use Rattle.metric.specs.Channels.{at, AllLawful}
 use Rattle.metric.specs.Gauges.{city_block_lawful}
@@ -46,7 +46,7 @@ premises_met = record {
         byte zero = omega arith
         byte (suc k) = omega arith
 
-    pivots : (c : ℕ) → c < length blocks → All (Row (at blocks c).width) (in_first ((40 ∷ []) ∷ []) c)
+    pivots : (c : ℕ) → c < length blocks → Every (Row (at blocks c).width) (in_first ((40 ∷ []) ∷ []) c)
     pivots zero h = (pivot, tt)
     pivots (suc zero) h = tt
     pivots (suc (suc c)) h = absurd (omega arith)

@@ -2,7 +2,7 @@
 use Rattle.std.specs.Prelude.{ℕ, suc, ◌-◌, ◌<◌, ◌≤◌, Bool, true, ◌&&◌, leb, List, [], ◌∷◌, map, ◌≢◌, nat_le}
 use Rattle.std.proofs.Math.Option.{Option, none, some}
 use Rattle.std.proofs.Math.ListN.{get_elem?}
-use Rattle.std.specs.List.{AllByRecursion as All}
+use Rattle.std.specs.List.{AllByRecursion as Every}
 use Rattle.refine.specs.Orders.{Order, sorted_by}
 use Rattle.refine.specs.OrderLaws.{keys}
 
@@ -22,12 +22,12 @@ distance f a = f.bound a f.m
 -- each two elements of a list, the earlier first, are related (the library's Pairwise goes by membership; this one by the list)
 abbrev pub EachTwo : {A : Type 0} → (A → A → Type 0) → List A → Type 0
 EachTwo R [] = Unit {0}
-EachTwo R (a ∷ l) = All (R a) l × EachTwo R l
+EachTwo R (a ∷ l) = Every (R a) l × EachTwo R l
 
 -- chains rise, the distance is at most the upper bound, and no identifier stands twice
 pub record LawfulFamily {A I : Type 0} (f : Family A I) (l : List A) : Type 0 where
-  pub rising : All (λ a. (t : ℕ) → t < f.m → f.bound a t ≤ f.bound a (suc t)) l
-  pub above : All (λ a. distance f a ≤ f.upper a) l
+  pub rising : Every (λ a. (t : ℕ) → t < f.m → f.bound a t ≤ f.bound a (suc t)) l
+  pub above : Every (λ a. distance f a ≤ f.upper a) l
   pub distinct : EachTwo (λ a b. f.id a ≢ f.id b) l
 
 -- the k-th least of some numbers, if there are k

@@ -1,7 +1,7 @@
 -- Plans: other ways to settle the finished list.
 use Rattle.std.specs.Prelude.{◌≡◌, ℕ, ◌≤◌, false, List, sum_by}
 use Rattle.std.proofs.Math.Option.{Option, none, some}
-use Rattle.std.specs.List.{ContainsAt as Has, AllByRecursion as All}
+use Rattle.std.specs.List.{ContainsAt as Has, AllByRecursion as Every}
 use Rattle.refine.specs.Chains.{Table}
 use Rattle.refine.specs.Scan.{final, finished, kth}
 
@@ -21,6 +21,6 @@ Past x (some a) y = x.ord.le y (final x a) ≡ false
 -- a plan settles the finished list: it takes a beginning of each order, the listed patches wholly, and each other patch so far that
 -- its key there is past
 pub record Settles {A K : Type 0} (x : Table A K) (k : ℕ) (l : List A) (plan : Plan A) : Type 0 where
-  pub beginning : All (λ a. plan a ≤ x.m) l
-  pub listed : All (λ a. plan a ≡ x.m) (finished x k l)
-  pub others : All (λ a. (Has (finished x k l) a → ⊥) → Past x (kth x k l) (x.key a (plan a))) l
+  pub beginning : Every (λ a. plan a ≤ x.m) l
+  pub listed : Every (λ a. plan a ≡ x.m) (finished x k l)
+  pub others : Every (λ a. (Has (finished x k l) a → ⊥) → Past x (kth x k l) (x.key a (plan a))) l

@@ -1,6 +1,6 @@
 -- What a question makes of the patches and pivots of an index: distances, the full scan, and the chains to refine.
 use Rattle.std.specs.Prelude.{◌≡◌, ℕ, ◌<◌, ◌≤◌, Bool, List, map, length, take, filter, ◌≢◌, nat_le, slice_index}
-use Rattle.std.specs.List.{AllByRecursion as All}
+use Rattle.std.specs.List.{AllByRecursion as Every}
 use Rattle.metric.specs.Model.{Model, Row}
 use Rattle.metric.specs.Channels.{at, AllLawful}
 use Rattle.aggregate.specs.Aggregates.{Entries, LawfulAggregate}
@@ -74,9 +74,9 @@ pub record Fits (ms : List Model) (q : Question) : Type 0 where
 
 -- patches and pivots are rows, and no accession number stands twice
 pub record Sound (ms : List Model) (s : Contents) : Type 0 where
-  pub patches : All (λ (o : Patch). Row (patch_width ms) o.rows) s.patches
+  pub patches : Every (λ (o : Patch). Row (patch_width ms) o.rows) s.patches
   pub distinct : EachTwo (λ (o p : Patch). o.accession ≢ p.accession) s.patches
-  pub pivots : (c : ℕ) → c < length ms → All (Row (at ms c).width) (s.pivots c)
+  pub pivots : (c : ℕ) → c < length ms → Every (Row (at ms c).width) (s.pivots c)
 
 -- one to eight lawful metrics, a lawful aggregate, a question that fits, sound contents
 pub record Posed (ms : List Model) (s : Contents) (q : Question) : Type 0 where

@@ -2,7 +2,7 @@
 use Rattle.std.specs.Prelude.{◌≡◌, ℕ, suc, ◌*◌, ◌<◌, ◌≤◌, Bool, true, List, map, ◌≢◌, slice_set}
 use mathlib.Core.List.{IsPrefix}
 use Rattle.std.specs.List.Sorted.{IsPermutation}
-use Rattle.std.specs.List.{AllByRecursion as All}
+use Rattle.std.specs.List.{AllByRecursion as Every}
 use Rattle.metric.specs.Model.{Model, Row}
 use Rattle.aggregate.specs.Aggregates.{LawfulAggregate}
 use Rattle.patch.specs.Patches.{Patch}
@@ -19,7 +19,7 @@ use Rattle.refine.specs.Questions.{Question, Contents, distance_to, neighbor, sc
 -- inequality and the greatest distance of a metric
 abbrev pub BetweenBounds : Type 0
 BetweenBounds = (m : Model) → Symmetric m → Triangle m → Bounded m
-    → (q o : List ℕ) → Row m.width q → Row m.width o → (ps : List (List ℕ)) → All (Row m.width) ps
+    → (q o : List ℕ) → Row m.width q → Row m.width o → (ps : List (List ℕ)) → Every (Row m.width) ps
     → let near = map (λ p. m.dist q p) ps in let far = map (λ p. m.dist p o) ps in
     (lower_of near far ≤ m.dist q o) × (m.dist q o ≤ upper_of m.top near far)
 
@@ -37,16 +37,16 @@ OneEntry = (m : ℕ) (cs : Channels) (t c : ℕ) → c < m → place m cs c ≡ 
 abbrev pub ChannelsToChains : (A I : Type 0) → Type 0
 ChannelsToChains A I = (ids : Order I) (id : A → I) (aggregate : List ℕ → ℕ) (m : ℕ) (channels : A → Channels) (l : List A)
     → LawfulAggregate aggregate → 1 ≤ m → m ≤ 8
-    → All (λ a. (c : ℕ) → c < m → Bracketed (channels a c)) l → EachTwo (λ a b. id a ≢ id b) l
+    → Every (λ a. (c : ℕ) → c < m → Bracketed (channels a c)) l → EachTwo (λ a b. id a ≢ id b) l
     → let f = chained ids id aggregate m channels in
-    LawfulFamily f l × All (λ a. distance f a ≡ aggregate (dists m (channels a))) l
+    LawfulFamily f l × Every (λ a. distance f a ≡ aggregate (dists m (channels a))) l
 
 -- what a question makes of an index
 pub record Refinable (ms : List Model) (s : Contents) (q : Question) : Type 0 where
   -- its chains are lawful, so that all of the above applies
   pub lawful : LawfulFamily (family ms q s.pivots) s.patches
   -- they end in the aggregated distances
-  pub distances : All (λ o. distance (family ms q s.pivots) o ≡ distance_to ms q o) s.patches
+  pub distances : Every (λ o. distance (family ms q s.pivots) o ≡ distance_to ms q o) s.patches
   -- and their finished list is the full scan, which knows no pivots
   pub scans : map (neighbor ms q) (finished (refined ms q s.pivots) q.k s.patches) ≡ scan ms q s.patches
 

@@ -2,7 +2,7 @@
 use Rattle.std.specs.Prelude.{◌≡◌, ℕ, zero, suc, ◌-◌, ◌*◌, ◌<◌, ◌≤◌, Bool, true, false, cond, not, ◌⊎◌, List, [], ◌∷◌, ◌++◌, map, length, sum_by, filter, ◌==◌, ◌≢◌, nat_le}
 use Rattle.std.proofs.Math.Option.{Option, none, some}
 use Rattle.std.specs.List.Sorted.{IsPermutation}
-use Rattle.std.specs.List.{ContainsAt as Has, AllByRecursion as All}
+use Rattle.std.specs.List.{ContainsAt as Has, AllByRecursion as Every}
 use Rattle.refine.specs.Chains.{Family, Table, admitted}
 
 -- an admitted patch that is not named yet, with the number of its channels that are measured
@@ -94,12 +94,12 @@ module _ {A K : Type 0} (x : Table A K) where
   -- c is a candidate of least key, and rest are the others, in any order
   pub record Chosen (s : State A) (c : Candidate A) (rest : List (Candidate A)) : Type 0 where
     pub among : IsPermutation s.live (c ∷ rest)
-    pub first : All (λ d. x.ord.le (key_now c) (key_now d) ≡ true) rest
+    pub first : Every (λ d. x.ord.le (key_now c) (key_now d) ≡ true) rest
 
   -- one step, in whatever order the candidates are kept: what code that keeps them in a queue of its own proves of itself
   pub data Move (k budget : ℕ) (s : State A) : Next A → Type 0 where
     full : k ≤ length s.named → Move k budget s done
-    dry : All (λ c. x.within (key_now c) ≡ false) s.live → Move k budget s done
+    dry : Every (λ c. x.within (key_now c) ≡ false) s.live → Move k budget s done
     names : (c : Candidate A) (rest : List (Candidate A)) → Chosen s c rest → length s.named < k → x.within (key_now c) ≡ true
         → c.t ≡ x.m → Move k budget s (on (naming s c rest))
     halts : (c : Candidate A) (rest : List (Candidate A)) → Chosen s c rest → length s.named < k → x.within (key_now c) ≡ true

@@ -3,7 +3,7 @@ use Rattle.std.specs.Prelude.{◌≡◌, ℕ, ◌<◌, ◌≤◌, min, Bool, tru
 use mathlib.Core.List.{IsPrefix}
 use Rattle.std.proofs.Math.Option.{none, some}
 use Rattle.std.specs.List.Sorted.{IsPermutation}
-use Rattle.std.specs.List.{ContainsAt as Has, AllByRecursion as All}
+use Rattle.std.specs.List.{ContainsAt as Has, AllByRecursion as Every}
 use Rattle.refine.specs.Chains.{Family, EachTwo, LawfulFamily, Table, distance, table, kth_least, admitted}
 use Rattle.refine.specs.Scan.{final, finished, needed, need}
 use Rattle.refine.specs.Steps.{Candidate, State, Next, on, begin, measuring, enough_steps, run, steps_left, Move, Runs, Taken}
@@ -12,11 +12,11 @@ use Rattle.refine.specs.Plans.{Plan, cost, Settles}
 -- r are the k nearest of l within the radius, nearest first: each is of l and within the radius; they rise; they are at most k; and a
 -- patch of l that is within the radius and not among them comes after all of them, and they are k
 pub record Nearest {A K : Type 0} (x : Table A K) (k : ℕ) (l r : List A) : Type 0 where
-  pub held : All (Has l) r
-  pub near : All (λ a. x.within (final x a) ≡ true) r
+  pub held : Every (Has l) r
+  pub near : Every (λ a. x.within (final x a) ≡ true) r
   pub rising : EachTwo (λ a b. x.ord.le (final x b) (final x a) ≡ false) r
   pub few : length r ≤ k
-  pub rest : All (λ a. x.within (final x a) ≡ true → (Has r a → ⊥) → (length r ≡ k) × All (λ b. x.ord.le (final x b) (final x a) ≡ true) r) l
+  pub rest : Every (λ a. x.within (final x a) ≡ true → (Has r a → ⊥) → (length r ≡ k) × Every (λ b. x.ord.le (final x b) (final x a) ≡ true) r) l
 
 -- the finished list is the k nearest, and no other list is
 abbrev pub FinishedNearest : (A I : Type 0) → Type 0
@@ -44,10 +44,10 @@ RunsEnd A I = (f : Family A I) (l : List A) (k radius budget : ℕ) → LawfulFa
 
 -- from every state there is a step, and a step that goes on leaves fewer steps to take: no run goes on for ever
 abbrev pub StepsEnd : (A I : Type 0) → Type 0
-StepsEnd A I = (f : Family A I) (k radius budget : ℕ) (s : State A) → All (λ c. c.t ≤ f.m) s.live
+StepsEnd A I = (f : Family A I) (k radius budget : ℕ) (s : State A) → Every (λ c. c.t ≤ f.m) s.live
     → let x = table f radius in
     ((n : Next A) × Move x k budget s n)
-    × ((s' : State A) → Move x k budget s (on s') → All (λ c. c.t ≤ f.m) s'.live × (steps_left x s' < steps_left x s))
+    × ((s' : State A) → Move x k budget s (on s') → Every (λ c. c.t ≤ f.m) s'.live × (steps_left x s' < steps_left x s))
 
 -- every plan that settles the finished list counts at least the need
 abbrev pub NeedIsLeast : (A I : Type 0) → Type 0
@@ -81,7 +81,7 @@ OneBegins l l' = IsPrefix l l' ⊎ IsPrefix l' l
 abbrev pub BoundsOnlyDelay : (A I : Type 0) → Type 0
 BoundsOnlyDelay A I = (f : Family A I) (m : ℕ) (bound : A → ℕ → ℕ) (upper : A → ℕ) (l l' : List A) (k radius budget budget' : ℕ)
     → let g = rebound f m bound upper in
-    IsPermutation l l' → LawfulFamily f l → LawfulFamily g l' → 1 ≤ k → All (λ a. distance f a ≡ distance g a) l
+    IsPermutation l l' → LawfulFamily f l → LawfulFamily g l' → 1 ≤ k → Every (λ a. distance f a ≡ distance g a) l
     → (b b' : Bool) (e e' : State A) → Runs (table f radius) k budget (begin f k radius l) b e → Runs (table g radius) k budget' (begin g k radius l') b' e'
     → OneBegins (answer f e) (answer g e')
 
@@ -115,7 +115,7 @@ image f s = record { live = map (λ c. record { patch = f c.patch; t = c.t }) s.
 -- a run over stand-ins is a run over the patches, and admits as many
 abbrev pub StandInsRun : (A B I : Type 0) → Type 0
 StandInsRun A B I = (f : A → B) (g : Family B I) (id : A → I) (bound : A → ℕ → ℕ) (upper : A → ℕ) (k radius budget : ℕ) (l : List A)
-    → All (λ a. ((t : ℕ) → bound a t ≡ g.bound (f a) t) × (upper a ≡ g.upper (f a)) × (id a ≡ g.id (f a))) l
+    → Every (λ a. ((t : ℕ) → bound a t ≡ g.bound (f a) t) × (upper a ≡ g.upper (f a)) × (id a ≡ g.id (f a))) l
     → let o = stand_ins g id bound upper in
     ((b : Bool) (e : State A) → Runs (table o radius) k budget (begin o k radius l) b e → Runs (table g radius) k budget (begin g k radius (map f l)) b (image f e))
     × (length (filter (admitted o k radius l) l) ≡ length (filter (admitted g k radius (map f l)) (map f l)))

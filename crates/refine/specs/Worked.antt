@@ -1,7 +1,7 @@
 -- Worked examples, computed from metrics, pivots and weights up.
 use Rattle.std.specs.Prelude.{◌≡◌, ℕ, Bool, true, false, cond, List, [], ◌∷◌, map, length, filter, ◌==◌}
 use Rattle.std.proofs.Math.Option.{Option, none, some}
-use Rattle.std.specs.List.{AllByRecursion as All}
+use Rattle.std.specs.List.{AllByRecursion as Every}
 use Rattle.metric.specs.Model.{Model}
 use Rattle.metric.specs.Distances.{city_block, hamming, circular}
 use Rattle.aggregate.specs.Aggregates.{total, greatest, smallest}
@@ -156,7 +156,7 @@ lines =
 
 -- the lines, and two distances round the circle
 abbrev pub Tabulated : Type 0
-Tabulated = All Holds lines × ((circular 1).dist (250 ∷ []) (4 ∷ []) ≡ 10) × ((circular 1).dist (0 ∷ []) (128 ∷ []) ≡ 128)
+Tabulated = Every Holds lines × ((circular 1).dist (250 ∷ []) (4 ∷ []) ≡ 10) × ((circular 1).dist (0 ∷ []) (128 ∷ []) ≡ 128)
 
 -- the premises of the theorems can be met: by a question to three patches, with two channels of the city block metric and a pivot
 abbrev pub PremisesMet : Type 0

@@ -11,7 +11,7 @@ use crate::near::ask_pivots;
 use crate::tops::ask_tops;
 use aggregate::Aggregate;
 use engine::records::{Answer, Candidate, Neighbor};
-use engine::refine::refine;
+use engine::refinement::refine;
 use index::counts::Counts;
 use index::layout::Layout;
 use metric::channels::ChannelSet;

@@ -4,7 +4,7 @@ use Rattle.engine.specs.Passes.{plain}
 use Rattle.engine.specs.declared.records.Answer.{Answer}
 use Rattle.engine.specs.Outcomes.{asking, slots_of, family_of, Ran}
 use Rattle.engine.proofs.Begins.{counted, stands_first}
-use Rattle.engine.proofs.refine.search.Goals as goal
+use Rattle.engine.proofs.refinement.search.Goals as goal
 
 pub run-complete-requires : goal.run-complete-requires
 run-complete-requires g c =
