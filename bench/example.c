@@ -1,4 +1,4 @@
-/* The commands of the rules' example, served: cc bench/example.c -I bench target/staticlib/libembedding.a KIT/lib/librattle_c.a */
+/* The commands of the rules' example, served: cc bench/example.c -I bench crates/embedding/out/libembedding.a */
 #include "embedding.h"
 #include <stdio.h>
 #include <stdlib.h>

@@ -7,7 +7,7 @@ use Rattle.std.proofs.lemmas.List.Sums.{sum_by-cons}
 use Rattle.refine.specs.Chains.{EachTwo}
 use Rattle.refine.proofs.Reorders.{Reordered, same, skip, swap, chain}
 
--- ---- sums, by recursion: the library's sumBy carries what it has so far along
+-- ---- sums, by recursion: the library's sum_by carries what it has so far along
 
 abbrev pub adding : {A : Type 0} → (A → ℕ) → List A → ℕ
 adding f [] = 0

@@ -1,5 +1,5 @@
--- The same elements in another order, as an inductive family: the library's Shuffled says it by exchanges of places, and its Perm is
--- truncated; inductions want neither. The two conversions show that this is Shuffled.
+-- The same elements in another order, as an inductive family: the library's IsPermutation says it by exchanges of places, and its Perm is
+-- truncated; inductions want neither. The two conversions show that this is IsPermutation.
 use Rattle.std.proofs.Common.{ℕ, zero, suc, ◌<◌, Bool, true, false, cond, List, [], ◌∷◌, map, length, get_or, set, filter, refl, arith}
 use Rattle.std.specs.List.Sorted.{IsPermutation}
 use Rattle.std.specs.List.{swap as exchanged, AllByRecursion as Every}

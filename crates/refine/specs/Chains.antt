@@ -19,7 +19,7 @@ pub record Family (A I : Type 0) : Type 0 where
 abbrev pub distance : {A I : Type 0} → Family A I → A → ℕ
 distance f a = f.bound a f.m
 
--- each two elements of a list, the earlier first, are related (the library's Pairwise goes by membership; this one by the list)
+-- each two elements of a list, the earlier first, are related
 abbrev pub EachTwo : {A : Type 0} → (A → A → Type 0) → List A → Type 0
 EachTwo R [] = Unit {0}
 EachTwo R (a ∷ l) = Every (R a) l × EachTwo R l

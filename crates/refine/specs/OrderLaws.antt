@@ -55,6 +55,6 @@ module _ {I : Type 0} (o : Order I) where
       go (inr a) (inl b) = absurd (omega arith)
       go (inr a) (inr b) = let e = a.0 in let f = o.antisymmetric _ _ a.1 b.1 in λ i. (e i, f i)
 
-  -- numbers with identifiers, by number-first
+  -- numbers with identifiers, by number_first
   abbrev pub keys : Order (ℕ × I)
   keys = record { le = λ p q. number_first o.le p q; connected = first_connected; transitive = first_transitive; antisymmetric = first_antisymmetric }
