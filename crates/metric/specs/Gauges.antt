@@ -6,10 +6,10 @@ use Rattle.std.specs.Int.Bits.{xor_add_and, xor_zero_l, xor_self, xor_assoc}
 use Rattle.std.specs.Int.Count.{ones_step, ones-ones}
 use Rattle.std.proofs.lemmas.Nat.{shr_below, mul-le, xor_shr, xor_mod, xor_comm, xor_lt, ones-le}
 use Rattle.metric.specs.Model.{Lawful}
-use Rattle.metric.specs.Distances.{difference, differing_bits, shorter_way, summed, city_block, hamming, circular, chebyshev}
+use Rattle.metric.specs.Distances.{difference, differing_bits, shorter_way, summed, largest, city_block, hamming, circular, chebyshev}
 use Rattle.metric.specs.Gathered.{Gauge, by_sum, by_max, across_lawful}
 
-difference_gauge : Gauge difference 255
+pub difference_gauge : Gauge difference 255
 difference_gauge = record {
   same = λ x h. omega arith;
   symmetric = λ x y h k. omega arith;
@@ -31,7 +31,7 @@ xor_over x y z =
     xor_assoc x y (bit_xor y z)
     ∙ ap (bit_xor x) (sym (xor_assoc y y z) ∙ ap (λ (n : ℕ). bit_xor n z) (xor_self y) ∙ xor_zero_l z)
 
-differing_bits_gauge : Gauge differing_bits 8
+pub differing_bits_gauge : Gauge differing_bits 8
 differing_bits_gauge = record {
   same = λ x h. ap count_ones (xor_self x) ∙ ones-ones 0;
   symmetric = λ x y h k. ap count_ones (xor_comm x y);
@@ -40,7 +40,7 @@ differing_bits_gauge = record {
   bounded = λ x y h k. ones-le 8 (bit_xor x y) (xor_lt 8 x y h k);
 }
 
-shorter_way_gauge : Gauge shorter_way 128
+pub shorter_way_gauge : Gauge shorter_way 128
 shorter_way_gauge = record {
   same = λ x h. omega arith;
   symmetric = λ x y h k. omega arith;
@@ -48,11 +48,16 @@ shorter_way_gauge = record {
   bounded = λ x y h k. omega arith;
 }
 
-summed_lawful : (f : ℕ → ℕ → ℕ) (c : ℕ) → Gauge f c → c ≤ 255 → (last : ℕ) → last ≤ 255 → Lawful (record { width = last + 1; top = c * (last + 1); dist = summed f })
+-- the laws of a gathered distance of bytes, at the width last + 1
+pub summed_lawful : (f : ℕ → ℕ → ℕ) (c : ℕ) → Gauge f c → c ≤ 255 → (last : ℕ) → last ≤ 255 → Lawful (record { width = last + 1; top = c * (last + 1); dist = summed f })
 summed_lawful f c g small last h =
     across_lawful by_sum f g (λ n. c * n) (λ n. omega (arith, mul-suc c n)) (last + 1) (omega arith) (omega arith) (mul-le c (last + 1) 255 256 small (omega arith))
 
--- the laws, at the width last + 1
+pub largest_lawful : (f : ℕ → ℕ → ℕ) (c : ℕ) → Gauge f c → c ≤ 255 → (last : ℕ) → last ≤ 255 → Lawful (record { width = last + 1; top = c; dist = largest f })
+largest_lawful f c g small last h =
+    across_lawful by_max f g (λ _. c) (λ n. omega arith) (last + 1) (omega arith) (omega arith) (omega arith)
+
+-- the laws of the four built metrics
 pub city_block_lawful : (last : ℕ) → last ≤ 255 → Lawful (city_block (last + 1))
 city_block_lawful = summed_lawful difference 255 difference_gauge (omega arith)
 
@@ -63,5 +68,4 @@ pub circular_lawful : (last : ℕ) → last ≤ 255 → Lawful (circular (last +
 circular_lawful = summed_lawful shorter_way 128 shorter_way_gauge (omega arith)
 
 pub chebyshev_lawful : (last : ℕ) → last ≤ 255 → Lawful (chebyshev (last + 1))
-chebyshev_lawful last h =
-    across_lawful by_max difference difference_gauge (λ _. 255) (λ n. omega arith) (last + 1) (omega arith) (omega arith) (omega arith)
+chebyshev_lawful = largest_lawful difference 255 difference_gauge (omega arith)

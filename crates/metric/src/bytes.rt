@@ -1,13 +1,26 @@
 //! Distances of two bytes, and their sum or their largest over two rows.
 ghost use Rattle.std.specs.Prelude.{◌≡◌, ℕ, ◌≤◌, length, count_ones};
+ghost use Rattle.std.proofs.Common.{arith};
 ghost use Rattle.metric.specs.Distances.{summed as summed_of, largest as largest_of, difference, differing_bits, shorter_way};
+ghost use Rattle.metric.specs.Gathered.{Gauge};
+ghost use Rattle.metric.specs.Gauges.{difference_gauge, differing_bits_gauge, shorter_way_gauge};
 
-/// A distance of two bytes.
+/// A distance of two bytes: 0 to itself, the same both ways, no longer than by way of a third, and bounded.
 pub trait ByteDistance {
     ghost between: { ℕ → ℕ → ℕ };
 
+    ghost GREATEST: { ℕ };
+
+    /// A number that no distance of two bytes exceeds.
+    const GREATEST: u8;
+
+    /// The distance.
     fn of(x: u8, y: u8) -> u8
         ensures { result ≡ between x y };
+
+    ghost byte: { GREATEST ≤ 255 };
+
+    ghost gauge: { Gauge between GREATEST };
 }
 
 // How many bits are one.
@@ -18,16 +31,27 @@ fn one_bits(x: u8) -> u8
 }
 
 /// By how much two bytes differ.
+#[derive(Clone, Copy, Debug, PartialEq, Eq)]
 pub struct Difference;
 
 /// In how many bits two bytes differ.
+#[derive(Clone, Copy, Debug, PartialEq, Eq)]
 pub struct DifferingBits;
 
 /// The shorter way round between two directions, 256 to the circle.
+#[derive(Clone, Copy, Debug, PartialEq, Eq)]
 pub struct ShorterWay;
 
 impl ByteDistance for Difference {
     ghost between = { difference };
+
+    ghost GREATEST = { 255 };
+
+    ghost byte = { omega arith };
+
+    ghost gauge = { difference_gauge };
+
+    const GREATEST: u8 = 255;
 
     fn of(x: u8, y: u8) -> u8 {
         x.abs_diff(y)
@@ -37,6 +61,14 @@ impl ByteDistance for Difference {
 impl ByteDistance for DifferingBits {
     ghost between = { differing_bits };
 
+    ghost GREATEST = { 8 };
+
+    ghost byte = { omega arith };
+
+    ghost gauge = { differing_bits_gauge };
+
+    const GREATEST: u8 = 8;
+
     fn of(x: u8, y: u8) -> u8 {
         one_bits(x ^ y)
     }
@@ -45,6 +77,14 @@ impl ByteDistance for DifferingBits {
 impl ByteDistance for ShorterWay {
     ghost between = { shorter_way };
 
+    ghost GREATEST = { 128 };
+
+    ghost byte = { omega arith };
+
+    ghost gauge = { shorter_way_gauge };
+
+    const GREATEST: u8 = 128;
+
     fn of(x: u8, y: u8) -> u8 {
         let turn = x.wrapping_sub(y);
         turn.min(turn.wrapping_neg())
@@ -52,7 +92,7 @@ impl ByteDistance for ShorterWay {
 }
 
 /// The sum over two rows side by side.
-pub fn summed<D: ByteDistance>(a: &[u8], b: &[u8]) -> u16
+pub(crate) fn summed<D: ByteDistance>(a: &[u8], b: &[u8]) -> u16
     requires few { length a.now ≤ 256 }
     requires alike { length a.now ≡ length b.now }
     ensures { result ≡ summed_of D.ByteDistance.between a.now b.now }
@@ -65,7 +105,7 @@ pub fn summed<D: ByteDistance>(a: &[u8], b: &[u8]) -> u16
 }
 
 /// The largest over two rows side by side.
-pub fn largest<D: ByteDistance>(a: &[u8], b: &[u8]) -> u8
+pub(crate) fn largest<D: ByteDistance>(a: &[u8], b: &[u8]) -> u8
     requires { length a.now ≡ length b.now }
     ensures { result ≡ largest_of D.ByteDistance.between a.now b.now }
 {

@@ -4,11 +4,12 @@
 ghost use Rattle.std.specs.Prelude.{◌≡◌, ℕ, List, length};
 ghost use Rattle.metric.specs.Model.{Model, Lawful, Adds};
 
-mod bytes;
+pub mod bytes;
 pub mod channels;
 pub mod chebyshev;
 pub mod circular;
 pub mod city_block;
+pub mod gathered;
 pub mod hamming;
 mod width;
 

@@ -20,6 +20,6 @@ impl Width {
     pub fn bytes(self) -> u16
         ensures { result ≡ self.last + 1 }
     {
-        self.last as u16 + 1
+        u16::from(self.last) + 1
     }
 }
