@@ -1,6 +1,7 @@
 -- A distance of bytes gathered over two rows: what a loop adds, and the laws that it keeps.
-use Rattle.std.specs.Prelude.{◌≡◌, ℕ, zero, suc, ◌+◌, ◌<◌, ◌≤◌, max, List, [], ◌∷◌, length, take, slice_index, refl}
-use Rattle.std.proofs.Common.{sym, ap, ◌∙◌, not-suc-le-zero, le_of_suc-le-suc, le_trans, add-one, arith, take_all}
+use Rattle.std.specs.Prelude.{◌≡◌, ℕ, zero, suc, ◌+◌, ◌*◌, ◌<◌, ◌≤◌, max, List, [], ◌∷◌, length, take, slice_index, refl}
+use Rattle.std.proofs.Common.{sym, ap, ◌∙◌, not-suc-le-zero, le_of_suc-le-suc, le_trans, mul-suc, add-one, arith, take_all}
+use Rattle.std.proofs.lemmas.Nat.{mul-le}
 use Rattle.metric.specs.Model.{Lawful}
 use Rattle.metric.specs.Distances.{across}
 
@@ -29,6 +30,17 @@ by_max = record {
   rises = λ a b c d h k. omega arith;
   spreads = λ a b c d. omega arith;
 }
+
+-- top c n is above n entries of at most c each, gathered, and leaves room above it
+pub record Topped (op top : ℕ → ℕ → ℕ) : Type 0 where
+  pub more : (c n : ℕ) → op c (top c n) ≤ top c (suc n)
+  pub small : (c n : ℕ) → c ≤ 255 → n ≤ 256 → top c n ≤ 65280
+
+pub sum_topped : Topped ◌+◌ ◌*◌
+sum_topped = record { more = λ c n. omega (arith, mul-suc c n); small = λ c n h k. mul-le c n 255 256 h k }
+
+pub max_topped : Topped max (λ c _. c)
+max_topped = record { more = λ c n. omega arith; small = λ c n h k. omega arith }
 
 -- f is a distance of bytes, at most c
 pub record Gauge (f : ℕ → ℕ → ℕ) (c : ℕ) : Type 0 where
@@ -97,3 +109,8 @@ module _ {op : ℕ → ℕ → ℕ} (o : Gathering op) (f : ℕ → ℕ → ℕ)
         triangle = λ x y z r s t. across_triangle x y z (r.long ∙ sym s.long) (s.long ∙ sym t.long) r.bytes s.bytes t.bytes;
         bounded = λ x y r s. rw (← r.long) (across_bounded x y r.bytes s.bytes);
       }
+
+module _ {op top f : ℕ → ℕ → ℕ} {c : ℕ} (o : Gathering op) (t : Topped op top) (g : Gauge f c) (byte : c ≤ 255) where
+  -- gathered over rows of last + 1 bytes
+  pub gathered_lawful : (last : ℕ) → last ≤ 255 → Lawful (record { width = last + 1; top = top c (last + 1); dist = across op f })
+  gathered_lawful last h = across_lawful o f g (top c) (t.more c) (last + 1) (omega arith) (omega arith) (t.small c (last + 1) byte (omega arith))

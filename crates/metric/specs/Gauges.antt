@@ -1,13 +1,13 @@
 -- The three distances of bytes, and the laws of the four built metrics.
 use Rattle.std.specs.Prelude.{◌≡◌, ℕ, zero, suc, ◌+◌, ◌*◌, ◌/◌, ◌%◌, ◌^◌, ◌<◌, ◌≤◌, bit_xor, count_ones}
-use Rattle.std.proofs.Common.{sym, ap, ◌∙◌, mul-suc, add-one, arith}
+use Rattle.std.proofs.Common.{sym, ap, ◌∙◌, add-one, arith}
 use Rattle.std.proofs.Math.Arith.{lt-one}
 use Rattle.std.specs.Int.Bits.{xor_add_and, xor_zero_l, xor_self, xor_assoc}
 use Rattle.std.specs.Int.Count.{ones_step, ones-ones}
-use Rattle.std.proofs.lemmas.Nat.{shr_below, mul-le, xor_shr, xor_mod, xor_comm, xor_lt, ones-le}
+use Rattle.std.proofs.lemmas.Nat.{shr_below, xor_shr, xor_mod, xor_comm, xor_lt, ones-le}
 use Rattle.metric.specs.Model.{Lawful}
-use Rattle.metric.specs.Distances.{difference, differing_bits, shorter_way, summed, largest, city_block, hamming, circular, chebyshev}
-use Rattle.metric.specs.Gathered.{Gauge, by_sum, by_max, across_lawful}
+use Rattle.metric.specs.Distances.{difference, differing_bits, shorter_way, city_block, hamming, circular, chebyshev}
+use Rattle.metric.specs.Gathered.{Gauge, by_sum, by_max, sum_topped, max_topped, gathered_lawful}
 
 pub difference_gauge : Gauge difference 255
 difference_gauge = record {
@@ -48,24 +48,15 @@ shorter_way_gauge = record {
   bounded = λ x y h k. omega arith;
 }
 
--- the laws of a gathered distance of bytes, at the width last + 1
-pub summed_lawful : (f : ℕ → ℕ → ℕ) (c : ℕ) → Gauge f c → c ≤ 255 → (last : ℕ) → last ≤ 255 → Lawful (record { width = last + 1; top = c * (last + 1); dist = summed f })
-summed_lawful f c g small last h =
-    across_lawful by_sum f g (λ n. c * n) (λ n. omega (arith, mul-suc c n)) (last + 1) (omega arith) (omega arith) (mul-le c (last + 1) 255 256 small (omega arith))
-
-pub largest_lawful : (f : ℕ → ℕ → ℕ) (c : ℕ) → Gauge f c → c ≤ 255 → (last : ℕ) → last ≤ 255 → Lawful (record { width = last + 1; top = c; dist = largest f })
-largest_lawful f c g small last h =
-    across_lawful by_max f g (λ _. c) (λ n. omega arith) (last + 1) (omega arith) (omega arith) (omega arith)
-
--- the laws of the four built metrics
+-- the laws, at the width last + 1
 pub city_block_lawful : (last : ℕ) → last ≤ 255 → Lawful (city_block (last + 1))
-city_block_lawful = summed_lawful difference 255 difference_gauge (omega arith)
+city_block_lawful = gathered_lawful by_sum sum_topped difference_gauge (omega arith)
 
 pub hamming_lawful : (last : ℕ) → last ≤ 255 → Lawful (hamming (last + 1))
-hamming_lawful = summed_lawful differing_bits 8 differing_bits_gauge (omega arith)
+hamming_lawful = gathered_lawful by_sum sum_topped differing_bits_gauge (omega arith)
 
 pub circular_lawful : (last : ℕ) → last ≤ 255 → Lawful (circular (last + 1))
-circular_lawful = summed_lawful shorter_way 128 shorter_way_gauge (omega arith)
+circular_lawful = gathered_lawful by_sum sum_topped shorter_way_gauge (omega arith)
 
 pub chebyshev_lawful : (last : ℕ) → last ≤ 255 → Lawful (chebyshev (last + 1))
-chebyshev_lawful = largest_lawful difference 255 difference_gauge (omega arith)
+chebyshev_lawful = gathered_lawful by_max max_topped difference_gauge (omega arith)

@@ -1,7 +1,7 @@
-//! Distances of two bytes, and their sum or their largest over two rows.
-ghost use Rattle.std.specs.Prelude.{◌≡◌, ℕ, ◌≤◌, length, count_ones};
+//! Distances of two bytes.
+ghost use Rattle.std.specs.Prelude.{◌≡◌, ℕ, ◌≤◌, count_ones};
 ghost use Rattle.std.proofs.Common.{arith};
-ghost use Rattle.metric.specs.Distances.{summed as summed_of, largest as largest_of, difference, differing_bits, shorter_way};
+ghost use Rattle.metric.specs.Distances.{difference, differing_bits, shorter_way};
 ghost use Rattle.metric.specs.Gathered.{Gauge};
 ghost use Rattle.metric.specs.Gauges.{difference_gauge, differing_bits_gauge, shorter_way_gauge};
 
@@ -89,29 +89,4 @@ impl ByteDistance for ShorterWay {
         let turn = x.wrapping_sub(y);
         turn.min(turn.wrapping_neg())
     }
-}
-
-/// The sum over two rows side by side.
-pub(crate) fn summed<D: ByteDistance>(a: &[u8], b: &[u8]) -> u16
-    requires few { length a.now ≤ 256 }
-    requires alike { length a.now ≡ length b.now }
-    ensures { result ≡ summed_of D.ByteDistance.between a.now b.now }
-{
-    let mut sum: u16 = 0;
-    for (i, x) in a.iter().enumerate() {
-        sum += D::of(*x, b[i]) as u16;
-    }
-    sum
-}
-
-/// The largest over two rows side by side.
-pub(crate) fn largest<D: ByteDistance>(a: &[u8], b: &[u8]) -> u8
-    requires { length a.now ≡ length b.now }
-    ensures { result ≡ largest_of D.ByteDistance.between a.now b.now }
-{
-    let mut most: u8 = 0;
-    for (i, x) in a.iter().enumerate() {
-        most = most.max(D::of(*x, b[i]));
-    }
-    most
 }

@@ -1,6 +1,6 @@
 //! Chebyshev distance.
 use crate::bytes::Difference;
-use crate::gathered::Largest;
+use crate::gathered::{Gathered, Largest};
 
 /// The largest single byte difference; at most 255.
-pub type Chebyshev = Largest<Difference>;
+pub type Chebyshev = Gathered<Largest, Difference>;

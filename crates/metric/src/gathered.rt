@@ -1,87 +1,121 @@
-//! Metrics gathered from a distance of bytes: its sum over two rows, and its largest.
-ghost use Rattle.std.specs.Prelude.{◌≡◌, ◌+◌, ◌*◌};
-ghost use Rattle.metric.specs.Distances.{summed as summed_of, largest as largest_of};
-ghost use Rattle.metric.specs.Gauges.{summed_lawful, largest_lawful};
+//! Metrics that gather a distance of bytes over two rows: its sum, or its largest.
+ghost use Rattle.std.specs.Prelude.{◌≡◌, ℕ, ◌+◌, ◌*◌, ◌≤◌, max, length};
+ghost use Rattle.metric.specs.Distances.{across};
+ghost use Rattle.metric.specs.Gathered.{Gathering, Topped, by_sum, by_max, sum_topped, max_topped, gathered_lawful};
 
 use crate::Metric;
-use crate::bytes::{ByteDistance, largest, summed};
+use crate::bytes::ByteDistance;
 use crate::width::Width;
 use std::marker::PhantomData;
 
-/// The sum of the distances of bytes; at most the greatest of one times the width.
-#[derive(Clone, Copy)]
-pub struct Summed<D> {
-    width: Width,
-    by: PhantomData<D>,
+/// A way to gather distances of bytes over two rows.
+pub trait Gather {
+    ghost op: { ℕ → ℕ → ℕ };
+
+    ghost top: { ℕ → ℕ → ℕ };
+
+    /// A number that gathered distances of at most `greatest` do not exceed.
+    fn top(greatest: u8, width: Width) -> u16
+        ensures { result ≡ top greatest (width.last + 1) };
+
+    /// The distances of two rows side by side, gathered.
+    fn over<D: ByteDistance>(a: &[u8], b: &[u8]) -> u16
+        requires few { length a.now ≤ 256 }
+        requires alike { length a.now ≡ length b.now }
+        ensures { result ≡ across op D.between a.now b.now };
+
+    ghost gathers: { Gathering op };
+
+    ghost topped: { Topped op top };
 }
 
-/// The largest distance of bytes.
-#[derive(Clone, Copy)]
-pub struct Largest<D> {
-    width: Width,
-    by: PhantomData<D>,
+/// The sum.
+#[derive(Clone, Copy, Debug, PartialEq, Eq)]
+pub struct Sum;
+
+/// The largest.
+#[derive(Clone, Copy, Debug, PartialEq, Eq)]
+pub struct Largest;
+
+impl Gather for Sum {
+    ghost op = { ◌+◌ };
+
+    ghost top = { ◌*◌ };
+
+    ghost gathers = { by_sum };
+
+    ghost topped = { sum_topped };
+
+    fn top(greatest: u8, width: Width) -> u16 {
+        u16::from(greatest) * width.bytes()
+    }
+
+    fn over<D: ByteDistance>(a: &[u8], b: &[u8]) -> u16 {
+        let mut sum: u16 = 0;
+        for (i, x) in a.iter().enumerate() {
+            sum += D::of(*x, b[i]) as u16;
+        }
+        sum
+    }
 }
 
-impl<D> Summed<D> {
+impl Gather for Largest {
+    ghost op = { max };
+
+    ghost top = { λ c _. c };
+
+    ghost gathers = { by_max };
+
+    ghost topped = { max_topped };
+
+    fn top(greatest: u8, _width: Width) -> u16 {
+        u16::from(greatest)
+    }
+
+    fn over<D: ByteDistance>(a: &[u8], b: &[u8]) -> u16 {
+        let mut most: u8 = 0;
+        for (i, x) in a.iter().enumerate() {
+            most = most.max(D::of(*x, b[i]));
+        }
+        u16::from(most)
+    }
+}
+
+/// A distance of bytes, gathered.
+#[derive(Clone, Copy, Debug, PartialEq, Eq)]
+pub struct Gathered<G, D> {
+    width: Width,
+    of: PhantomData<(G, D)>,
+}
+
+impl<G, D> Gathered<G, D> {
     /// Made from the width less 1.
     pub fn new(last: u8) -> Self
         ensures { result.width.last ≡ last }
     {
-        Summed {
+        Gathered {
             width: Width::new(last),
-            by: PhantomData,
+            of: PhantomData,
         }
     }
 }
 
-impl<D> Largest<D> {
-    /// Made from the width less 1.
-    pub fn new(last: u8) -> Self
-        ensures { result.width.last ≡ last }
-    {
-        Largest {
-            width: Width::new(last),
-            by: PhantomData,
-        }
-    }
-}
-
-impl<D: ByteDistance> Metric for Summed<D> {
-    ghost model = { λ m. record { width = m.width.last + 1; top = D.GREATEST * (m.width.last + 1); dist = summed_of D.between } };
+impl<G: Gather, D: ByteDistance> Metric for Gathered<G, D> {
+    ghost model = { λ m. record { width = m.width.last + 1; top = G.top D.GREATEST (m.width.last + 1); dist = across G.op D.between } };
 
     ghost asked = { λ _ _ _. ⊥ };
 
-    ghost lawful = { λ m. summed_lawful D.between D.GREATEST D.gauge D.byte m.width.last m.width.byte };
+    ghost lawful = { λ m. gathered_lawful G.gathers G.topped D.gauge D.byte m.width.last m.width.byte };
 
     fn width(&self) -> usize {
         usize::from(self.width.bytes())
     }
 
     fn max_distance(&self) -> u16 {
-        u16::from(D::GREATEST) * self.width.bytes()
+        G::top(D::GREATEST, self.width)
     }
 
     fn distance(&mut self, a: &[u8], b: &[u8]) -> u16 {
-        summed::<D>(a, b)
-    }
-}
-
-impl<D: ByteDistance> Metric for Largest<D> {
-    ghost model = { λ m. record { width = m.width.last + 1; top = D.GREATEST; dist = largest_of D.between } };
-
-    ghost asked = { λ _ _ _. ⊥ };
-
-    ghost lawful = { λ m. largest_lawful D.between D.GREATEST D.gauge D.byte m.width.last m.width.byte };
-
-    fn width(&self) -> usize {
-        usize::from(self.width.bytes())
-    }
-
-    fn max_distance(&self) -> u16 {
-        u16::from(D::GREATEST)
-    }
-
-    fn distance(&mut self, a: &[u8], b: &[u8]) -> u16 {
-        u16::from(largest::<D>(a, b))
+        G::over::<D>(a, b)
     }
 }

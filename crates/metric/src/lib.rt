@@ -4,12 +4,12 @@
 ghost use Rattle.std.specs.Prelude.{◌≡◌, ℕ, List, length};
 ghost use Rattle.metric.specs.Model.{Model, Lawful, Adds};
 
-pub mod bytes;
+mod bytes;
 pub mod channels;
 pub mod chebyshev;
 pub mod circular;
 pub mod city_block;
-pub mod gathered;
+mod gathered;
 pub mod hamming;
 mod width;
 

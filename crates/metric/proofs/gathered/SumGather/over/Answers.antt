@@ -1,6 +1,6 @@
 use Rattle.std.proofs.Common.{refl, arith}
 use Rattle.metric.specs.Gathered.{by_sum, across_more, across_all}
-use Rattle.metric.proofs.bytes.summed.Goals as goal
+use Rattle.metric.proofs.gathered.SumGather.over.Goals as goal
 
 pub loop-i-preserved : goal.loop-i-preserved
 loop-i-preserved g c = (
