@@ -14,8 +14,8 @@ lawful_append xs ys p q c h = ⊎_elim
 
 module _ (xs ys : List Model) (c : ℕ) where
   -- a channel of the first set
-  pub at_first : (i : ℕ) → (i ≡ c) × (c < count xs) → at (xs ++ ys) c ≡ at xs i
-  at_first i l = get_or_append_left xs ys no_model c (omega (arith, l.1)) ∙ ap (at xs) (sym l.0)
+  pub at_first : c < count xs → at (xs ++ ys) c ≡ at xs c
+  at_first h = get_or_append_left xs ys no_model c (omega arith)
 
   module _ (j : ℕ) (l : c ≡ count xs + j) (h : c < count (xs ++ ys)) where
     -- the first set is counted in full where a channel lies past it
@@ -31,9 +31,9 @@ module _ (xs ys : List Model) (c : ℕ) where
 
 module _ (c : ℕ) (a b : List ℕ) where
   -- a question to the first set
-  pub adds_first : (i n n' : ℕ) (first first' second : Asked) → i ≡ c → n' ≡ n → AddsAt first first' i a b → AddsAt (beside n first second) (beside n' first' second) c a b
-  adds_first i n n' first first' second s e h k x y (inl p) = ⊎_elim (λ r. inl (inl (omega (arith, p.0), r))) (λ r. inr (r.0 ∙ s, r.1, r.2)) (h k x y p.1)
-  adds_first i n n' first first' second s e h k x y (inr p) = inl (inr (p.0, omega (arith, p.1), p.2))
+  pub adds_first : (n n' : ℕ) (first first' second : Asked) → n' ≡ n → AddsAt first first' c a b → AddsAt (beside n first second) (beside n' first' second) c a b
+  adds_first n n' first first' second e h k x y (inl p) = ⊎_elim (λ r. inl (inl (omega (arith, p.0), r))) (λ r. inr r) (h k x y p.1)
+  adds_first n n' first first' second e h k x y (inr p) = inl (inr (p.0, omega (arith, p.1), p.2))
 
   -- a question to the second set
   pub adds_second : (n j : ℕ) (first second second' : Asked) → c ≡ n + j → AddsAt second second' j a b → AddsAt (beside n first second) (beside n first second') c a b

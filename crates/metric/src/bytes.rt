@@ -1,5 +1,5 @@
 //! Distances of two bytes.
-ghost use Rattle.std.specs.Prelude.{◌≡◌, ℕ, ◌≤◌, count_ones};
+ghost use Rattle.std.specs.Prelude.{◌≡◌, ℕ, ◌≤◌};
 ghost use Rattle.std.proofs.Common.{arith};
 ghost use Rattle.metric.specs.Distances.{difference, differing_bits, shorter_way};
 ghost use Rattle.metric.specs.Gathered.{Gauge};
@@ -21,13 +21,6 @@ pub trait ByteDistance {
     ghost byte: { GREATEST ≤ 255 };
 
     ghost gauge: { Gauge between GREATEST };
-}
-
-// How many bits are one.
-fn one_bits(x: u8) -> u8
-    ensures { result ≡ count_ones x }
-{
-    x.count_ones() as u8
 }
 
 /// By how much two bytes differ.
@@ -70,7 +63,7 @@ impl ByteDistance for DifferingBits {
     const GREATEST: u8 = 8;
 
     fn of(x: u8, y: u8) -> u8 {
-        one_bits(x ^ y)
+        (x ^ y).count_ones() as u8
     }
 }
 

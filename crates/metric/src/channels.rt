@@ -45,7 +45,7 @@ pub trait ChannelSet {
 }
 
 /// One metric as a set of one channel.
-#[derive(Clone, Copy, Drop)]
+#[derive(Clone, Copy, Debug, PartialEq, Eq, Drop)]
 pub struct Single<M> {
     pub metric: M,
 }
@@ -77,29 +77,20 @@ impl<M: Metric> ChannelSet for Single<M> {
 }
 
 /// Two sets side by side, the first one's channels first.
-#[derive(Clone, Copy, Drop)]
+#[derive(Clone, Copy, Debug, PartialEq, Eq, Drop)]
 pub struct Pair<A, B> {
     pub first: A,
     pub second: B,
 }
 
-// On which side of a pair a channel lies, and its number there.
-enum Side {
-    First(usize),
-    Second(usize),
-}
-
-fn side_of<A: ChannelSet>(first: &A, c: usize) -> Side
+// The number of channel c in what comes behind a set, or none where it lies in the set.
+fn behind<A: ChannelSet>(first: &A, c: usize) -> Option<usize>
     ensures { LiesAt (A.models first.now) c result }
 {
-    let n = first.channels();
-    if c < n {
-        Side::First(c)
-    } else {
-        Side::Second(c - n)
-    }
+    c.checked_sub(first.channels())
 }
 
+#[tactic(auto, using(crate::specs::Beside::at_first, crate::specs::Beside::at_second, crate::specs::Beside::in_second))]
 impl<A: ChannelSet, B: ChannelSet> ChannelSet for Pair<A, B> {
     ghost models = { λ s. A.ChannelSet.models s.first ++ B.ChannelSet.models s.second };
 
@@ -115,23 +106,23 @@ impl<A: ChannelSet, B: ChannelSet> ChannelSet for Pair<A, B> {
     }
 
     fn width(&self, c: usize) -> usize {
-        match side_of(&self.first, c) {
-            Side::First(i) => self.first.width(i),
-            Side::Second(j) => self.second.width(j),
+        match behind(&self.first, c) {
+            None => self.first.width(c),
+            Some(j) => self.second.width(j),
         }
     }
 
     fn max_distance(&self, c: usize) -> u16 {
-        match side_of(&self.first, c) {
-            Side::First(i) => self.first.max_distance(i),
-            Side::Second(j) => self.second.max_distance(j),
+        match behind(&self.first, c) {
+            None => self.first.max_distance(c),
+            Some(j) => self.second.max_distance(j),
         }
     }
 
     fn distance(&mut self, c: usize, a: &[u8], b: &[u8]) -> u16 {
-        match side_of(&self.first, c) {
-            Side::First(i) => self.first.distance(i, a, b),
-            Side::Second(j) => self.second.distance(j, a, b),
+        match behind(&self.first, c) {
+            None => self.first.distance(c, a, b),
+            Some(j) => self.second.distance(j, a, b),
         }
     }
 }

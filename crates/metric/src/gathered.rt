@@ -53,7 +53,7 @@ impl Gather for Sum {
     fn over<D: ByteDistance>(a: &[u8], b: &[u8]) -> u16 {
         let mut sum: u16 = 0;
         for (i, x) in a.iter().enumerate() {
-            sum += D::of(*x, b[i]) as u16;
+            sum += u16::from(D::of(*x, b[i]));
         }
         sum
     }
@@ -73,6 +73,7 @@ impl Gather for Largest {
     }
 
     fn over<D: ByteDistance>(a: &[u8], b: &[u8]) -> u16 {
+        // a loop: of a chain over zip whose closure calls the bound's `of` the result did not prove
         let mut most: u8 = 0;
         for (i, x) in a.iter().enumerate() {
             most = most.max(D::of(*x, b[i]));
