@@ -1,5 +1,5 @@
 //! The built metrics, one distance at a time.
-ghost use Rattle.std.specs.Prelude.{◌≡◌, ◌≤◌, false, T, length, ◌≢◌};
+ghost use Rattle.std.specs.Prelude.{◌≡◌, ℕ, ◌+◌, ◌-◌, ◌≤◌, IfSome, length};
 ghost use Rattle.metric.specs.Distances.{summed, largest, difference, differing_bits, shorter_way};
 
 use metric::Metric;
@@ -8,15 +8,26 @@ use metric::circular::Circular;
 use metric::city_block::CityBlock;
 use metric::hamming::Hamming;
 
-// What is answered of rows that no metric takes.
-const NONE: u32 = 4294967295;
-
-// Whether two rows have one width, and a metric can have it.
-fn alike(a: &[u8], b: &[u8]) -> bool
-    ensures yes { T result → (1 ≤ length a.now) × (length a.now ≤ 256) × (length b.now ≡ length a.now) }
-    ensures no { result ≡ false → 1 ≤ length a.now → length a.now ≤ 256 → length b.now ≢ length a.now }
+// The distance of two rows of one width, by the metric made from it less 1; none where the widths differ or no metric can have it.
+fn distance<M: Metric + Drop, F: Fn(u8) -> M>(make: F, a: &[u8], b: &[u8]) -> Option<u16>
+    requires callable { F.IsAlwaysCallable make }
+    requires wide { (last : ℕ) (m : M) → F.post make last m → (M.model m).width ≡ last + 1 }
+    ensures some { 1 ≤ length a.now → length a.now ≤ 256 → length b.now ≡ length a.now → (m : M) × F.post make (length a.now - 1) m × (result ≡ Some ((M.model m).dist a.now b.now)) }
+    ensures only { IfSome result (λ _. (1 ≤ length a.now) × (length a.now ≤ 256) × (length b.now ≡ length a.now)) }
 {
-    a.len() == b.len() && a.len() > 0 && a.len() <= 256
+    if a.len() != b.len() {
+        return None;
+    }
+    let last = u8::try_from(a.len().checked_sub(1)?).ok()?;
+    let mut metric = make(last);
+    Some(metric.distance(a, b))
+}
+
+// As the C interface has it: 2^32 - 1 for none.
+fn number(distance: Option<u16>) -> u32
+    ensures { (d : ℕ) → distance ≡ Some d → result ≡ d }
+{
+    distance.map_or(u32::MAX, u32::from)
 }
 
 /// The city block distance of two rows of 1 to 256 bytes; 2^32 - 1 where they are no such rows of one width.
@@ -24,10 +35,7 @@ fn alike(a: &[u8], b: &[u8]) -> bool
 pub extern "C" fn embedding_city_block(a: &[u8], b: &[u8]) -> u32
     ensures { 1 ≤ length a.now → length a.now ≤ 256 → length b.now ≡ length a.now → result ≡ summed difference a.now b.now }
 {
-    if !alike(a, b) {
-        return NONE;
-    }
-    CityBlock::new((a.len() - 1) as u8).distance(a, b) as u32
+    number(distance(CityBlock::new, a, b))
 }
 
 /// The Hamming distance, likewise.
@@ -35,10 +43,7 @@ pub extern "C" fn embedding_city_block(a: &[u8], b: &[u8]) -> u32
 pub extern "C" fn embedding_hamming(a: &[u8], b: &[u8]) -> u32
     ensures { 1 ≤ length a.now → length a.now ≤ 256 → length b.now ≡ length a.now → result ≡ summed differing_bits a.now b.now }
 {
-    if !alike(a, b) {
-        return NONE;
-    }
-    Hamming::new((a.len() - 1) as u8).distance(a, b) as u32
+    number(distance(Hamming::new, a, b))
 }
 
 /// The circular distance, likewise.
@@ -46,10 +51,7 @@ pub extern "C" fn embedding_hamming(a: &[u8], b: &[u8]) -> u32
 pub extern "C" fn embedding_circular(a: &[u8], b: &[u8]) -> u32
     ensures { 1 ≤ length a.now → length a.now ≤ 256 → length b.now ≡ length a.now → result ≡ summed shorter_way a.now b.now }
 {
-    if !alike(a, b) {
-        return NONE;
-    }
-    Circular::new((a.len() - 1) as u8).distance(a, b) as u32
+    number(distance(Circular::new, a, b))
 }
 
 /// The Chebyshev distance, likewise.
@@ -57,8 +59,5 @@ pub extern "C" fn embedding_circular(a: &[u8], b: &[u8]) -> u32
 pub extern "C" fn embedding_chebyshev(a: &[u8], b: &[u8]) -> u32
     ensures { 1 ≤ length a.now → length a.now ≤ 256 → length b.now ≡ length a.now → result ≡ largest difference a.now b.now }
 {
-    if !alike(a, b) {
-        return NONE;
-    }
-    Chebyshev::new((a.len() - 1) as u8).distance(a, b) as u32
+    number(distance(Chebyshev::new, a, b))
 }

@@ -4,17 +4,9 @@ ghost use Rattle.embedding.specs.Answers.{Wrote};
 
 use crate::memory::{begin, size};
 use crate::session::serve_in;
+use bench::{Four, four};
 use command::format::Format;
-use metric::channels::{Pair, Single};
-use metric::chebyshev::Chebyshev;
-use metric::circular::Circular;
-use metric::city_block::CityBlock;
-use metric::hamming::Hamming;
-
-type Four = Pair<
-    Pair<Single<CityBlock>, Single<Hamming>>,
-    Pair<Single<Circular>, Single<Chebyshev>>,
->;
+use metric::channels::Pair;
 
 // One weight for each channel, and the bytes of a patch.
 const FORMAT: Format = Format {
@@ -22,31 +14,10 @@ const FORMAT: Format = Format {
     rows: 2048,
 };
 
-fn four() -> Four {
-    Pair {
-        first: Pair {
-            first: Single {
-                metric: CityBlock::new(255),
-            },
-            second: Single {
-                metric: Hamming::new(255),
-            },
-        },
-        second: Pair {
-            first: Single {
-                metric: Circular::new(255),
-            },
-            second: Single {
-                metric: Chebyshev::new(255),
-            },
-        },
-    }
-}
-
 fn wide() -> Pair<Four, Four> {
     Pair {
-        first: four(),
-        second: four(),
+        first: four(255, 255, 255, 255),
+        second: four(255, 255, 255, 255),
     }
 }
 

@@ -73,7 +73,7 @@ impl Gather for Largest {
     }
 
     fn over<D: ByteDistance>(a: &[u8], b: &[u8]) -> u16 {
-        // a loop: of a chain over zip whose closure calls the bound's `of` the result did not prove
+        // a loop: what a chain over zip gives, whose closure calls the bound's `of`, did not prove
         let mut most: u8 = 0;
         for (i, x) in a.iter().enumerate() {
             most = most.max(D::of(*x, b[i]));
