@@ -1,8 +1,7 @@
 -- Folds over entries.
-use Rattle.std.specs.Prelude.{◌≡◌, ℕ, suc, ◌+◌, ◌<◌, ◌≤◌, min, max, List, [], ◌∷◌, length, take, fold, slice_index}
-use Rattle.std.proofs.Common.{arith, take_all}
-use Rattle.std.proofs.lemmas.List.Sums.{fold_more}
-use Rattle.aggregate.specs.Aggregates.{Raised, LawfulAggregate, total, greatest, smallest}
+use Rattle.std.specs.Prelude.{ℕ, suc, ◌+◌, ◌*◌, ◌≤◌, min, max, List, [], ◌∷◌, length, fold, slice_index}
+use Rattle.std.proofs.Common.{arith}
+use Rattle.aggregate.specs.Aggregates.{Entries, Raised, LawfulAggregate, total, greatest, smallest}
 
 raised_rest : (x y : ℕ) (xs ys : List ℕ) → Raised (x ∷ xs) (y ∷ ys) → Raised xs ys
 raised_rest x y xs ys r = record { long = omega (arith, r.long); up = λ k. r.up (suc k) }
@@ -40,9 +39,10 @@ smallest_lawful = record {
   within = λ xs e. smallest_within xs;
 }
 
--- a loop's step, and its end
-pub fold_step : (f : ℕ → ℕ → ℕ) (a : ℕ) (xs : List ℕ) (i so v : ℕ) → i < length xs → so ≡ fold f a (take i xs) → v ≡ f so (slice_index xs i) → v ≡ fold f a (take (i + 1) xs)
-fold_step f a xs i so v h e u = let m = fold_more f a xs i 0 h in cc
+folded_bound : (xs : List ℕ) (a : ℕ) → ((k : ℕ) → slice_index xs k ≤ 16711425) → fold ◌+◌ a xs ≤ a + 16711425 * length xs
+folded_bound [] a h = omega arith
+folded_bound (x ∷ xs) a h = omega (arith, folded_bound xs (a + x) (λ k. h (suc k)), h 0)
 
-pub fold_all : (f : ℕ → ℕ → ℕ) (a : ℕ) (xs : List ℕ) (i so : ℕ) → length xs ≤ i → so ≡ fold f a (take i xs) → so ≡ fold f a xs
-fold_all f a xs i so h e = let m = take_all i xs h in cc
+-- the sum of entries is at most eight of the greatest
+pub total_bound : (xs : List ℕ) → Entries xs → total xs ≤ 133691400
+total_bound xs e = omega (arith, folded_bound xs 0 e.small, e.few)

@@ -3,8 +3,10 @@
 
 ghost use Rattle.std.specs.Prelude.{◌≡◌, ℕ, ◌<◌, List, MatchOption};
 ghost use Rattle.aggregate.specs.Aggregates.{Entries, LawfulAggregate, total, greatest, smallest};
-ghost use Rattle.aggregate.specs.Choices.{chosen, chosen_lawful, number};
+ghost use Rattle.aggregate.specs.Choices.{chosen, chosen_lawful, Chooses};
 ghost use Rattle.aggregate.specs.Folds.{total_lawful, greatest_lawful, smallest_lawful};
+
+use refusal::Refusal;
 
 /// A weighted distance, or an aggregate of up to eight: at most 133,171,200.
 pub type Weighted = u32;
@@ -40,11 +42,7 @@ impl Aggregate for Sum {
     ghost lawful = { λ s. total_lawful };
 
     fn combine(&self, entries: &[Weighted]) -> Weighted {
-        let mut sum = 0;
-        for x in entries {
-            sum += *x;
-        }
-        sum
+        entries.iter().sum()
     }
 }
 
@@ -54,11 +52,7 @@ impl Aggregate for Max {
     ghost lawful = { λ s. greatest_lawful };
 
     fn combine(&self, entries: &[Weighted]) -> Weighted {
-        let mut most: Weighted = 0;
-        for x in entries {
-            most = most.max(*x);
-        }
-        most
+        entries.iter().fold(0, |most, x| most.max(*x))
     }
 }
 
@@ -68,32 +62,30 @@ impl Aggregate for Min {
     ghost lawful = { λ s. smallest_lawful };
 
     fn combine(&self, entries: &[Weighted]) -> Weighted {
-        let mut least = entries[0];
-        for x in entries {
-            least = least.min(*x);
-        }
-        least
+        entries.iter().fold(entries[0], |least, x| least.min(*x))
     }
 }
 
 /// One of the three, chosen at run time.
-#[derive(Clone, Copy)]
+#[derive(Clone, Copy, PartialEq, Eq, Debug)]
 pub enum Choice {
     Sum,
     Max,
     Min,
 }
 
-impl Choice {
-    /// By its number: 0 is the sum, 1 the greatest, 2 the least.
-    pub fn from_number(n: u8) -> Option<Choice>
-        ensures { MatchOption result (2 < n) (λ c. number c ≡ n) }
-    {
+/// By its number: 0 is the sum, 1 the greatest, 2 the least; refused above 2.
+impl TryFrom<u8> for Choice {
+    type Error = Refusal;
+
+    ghost try_from_gives = { Chooses };
+
+    fn try_from(n: u8) -> Result<Choice, Refusal> {
         match n {
-            0 => Some(Choice::Sum),
-            1 => Some(Choice::Max),
-            2 => Some(Choice::Min),
-            _ => None,
+            0 => Ok(Choice::Sum),
+            1 => Ok(Choice::Max),
+            2 => Ok(Choice::Min),
+            _ => Err(Refusal::UnknownAggregate),
         }
     }
 }

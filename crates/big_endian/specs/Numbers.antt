@@ -9,6 +9,6 @@ abbrev pub be32 : ℕ → List ℕ
 be32 n = be16 (n / 65536) ++ be16 (n % 65536)
 
 -- a number and what follows it, from the front of the bytes; none where they are fewer than `size`
-abbrev pub Front : (encode : ℕ → List ℕ) (size : ℕ) (bytes : List ℕ) → Option (ℕ × Bor (List ℕ)) → Type 0
+abbrev pub Front : {X : Type 0} (encode : X → List ℕ) (size : ℕ) (bytes : List ℕ) → Option (X × Bor (List ℕ)) → Type 0
 Front encode size bytes None = length bytes < size
 Front encode size bytes (Some p) = (bytes ≡ encode p.0 ++ p.1.now) × (length bytes ≡ size + length p.1.now)

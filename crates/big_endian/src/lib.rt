@@ -1,41 +1,69 @@
 //! Numbers as bytes, the most significant first.
 #![tactic(auto)]
 
-ghost use Rattle.std.specs.Prelude.{◌≡◌, ◌+◌, ◌*◌, [], ◌∷◌};
+ghost use Rattle.std.specs.Prelude.{◌≡◌, ℕ, ◌+◌, ◌*◌, ◌≤◌, List, [], ◌∷◌, length, slice_index, refl};
 ghost use Rattle.big_endian.specs.Numbers.{be16, be32, Front};
 
-/// The byte at the front, and what follows it; none where there is none.
-pub fn split_u8(bytes: &[u8]) -> Option<(u8, &[u8])>
-    ensures { Front (λ n. n ∷ []) 1 bytes.now result }
-{
-    match bytes {
-        [n, rest @ ..] => Some((*n, rest)),
-        [] => None,
+/// A number that is written as so many bytes, the most significant first.
+///
+/// `written` is what its bytes are, `size` how many they are.
+pub trait BigEndian {
+    ghost written: { Self → List ℕ };
+
+    ghost size: { ℕ };
+
+    /// The number at the front of the bytes, and what follows it; none where there are too few.
+    fn split_front(bytes: &[u8]) -> Option<(Self, &[u8])>
+        ensures { Front written size bytes.now result };
+
+    ghost sized: { (n : Self) → length (written n) ≡ size };
+}
+
+impl BigEndian for u8 {
+    ghost written = { λ n. n ∷ [] };
+
+    ghost size = { 1 };
+
+    ghost sized = { λ _. refl };
+
+    fn split_front(bytes: &[u8]) -> Option<(Self, &[u8])> {
+        let (n, rest) = bytes.split_first()?;
+        Some((*n, rest))
     }
 }
 
-// Two bytes as a number.
-fn joined(high: u8, low: u8) -> u16
-    ensures { result ≡ high * 256 + low }
-{
-    u16::from_be_bytes([high, low])
-}
+impl BigEndian for u16 {
+    ghost written = { be16 };
 
-/// The number of two bytes at the front, and what follows it; none where there are fewer.
-pub fn split_u16(bytes: &[u8]) -> Option<(u16, &[u8])>
-    ensures { Front be16 2 bytes.now result }
-{
-    match bytes {
-        [high, low, rest @ ..] => Some((joined(*high, *low), rest)),
-        _ => None,
+    ghost size = { 2 };
+
+    ghost sized = { λ _. refl };
+
+    fn split_front(bytes: &[u8]) -> Option<(Self, &[u8])> {
+        let (high, rest) = u8::split_front(bytes)?;
+        let (low, rest) = u8::split_front(rest)?;
+        Some((u16::from_be_bytes([high, low]), rest))
     }
 }
 
-/// The number of four bytes at the front, and what follows it; none where there are fewer.
-pub fn split_u32(bytes: &[u8]) -> Option<(u32, &[u8])>
-    ensures { Front be32 4 bytes.now result }
+impl BigEndian for u32 {
+    ghost written = { be32 };
+
+    ghost size = { 4 };
+
+    ghost sized = { λ _. refl };
+
+    fn split_front(bytes: &[u8]) -> Option<(Self, &[u8])> {
+        let (high, rest) = u16::split_front(bytes)?;
+        let (low, rest) = u16::split_front(rest)?;
+        Some((u32::from(high) * 65536 + u32::from(low), rest))
+    }
+}
+
+/// The number of the two bytes from `at` on.
+pub fn get_u16(bytes: &[u8], at: usize) -> u16
+    requires { at + 2 ≤ length bytes.now }
+    ensures { result ≡ slice_index bytes.now at * 256 + slice_index bytes.now (at + 1) }
 {
-    let (high, rest) = split_u16(bytes)?;
-    let (low, rest) = split_u16(rest)?;
-    Some((high as u32 * 65536 + low as u32, rest))
+    u16::from_be_bytes([bytes[at], bytes[at + 1]])
 }

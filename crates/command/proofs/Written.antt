@@ -1,27 +1,11 @@
 -- Commands in front of an input.
-use Rattle.std.proofs.Common.{◌≡◌, ℕ, ◌+◌, ◌*◌, ◌/◌, ◌%◌, ◌<◌, ◌≤◌, cond, eqb, List, [], ◌∷◌, ◌++◌, length, get_or, take, drop, Some, None, Ok, Err, Option, Result, unwrap_or, sym, refl, ap, ◌∙◌, subst, append_assoc, arith, length-append, le-ltb}
+use Rattle.std.proofs.Common.{◌≡◌, ℕ, ◌+◌, ◌*◌, ◌/◌, ◌%◌, ◌≤◌, cond, eqb, List, [], ◌∷◌, ◌++◌, length, get_or, take, drop, Some, None, Ok, Err, Option, Result, unwrap_or, sym, refl, ap, ◌∙◌, append_assoc, arith, length-append, le-ltb}
 use lib.Seq.{take-append_seam, drop-append_seam}
-use Rattle.std.specs.Result.{result_ok}
 use Rattle.big_endian.specs.Numbers.{be16, be32}
 use Rattle.refusal.specs.declared.Refusal.{Refusal}
 use Rattle.command.specs.declared.format.Format.{Format}
 use Rattle.command.specs.declared.Command.{Command}
 use Rattle.command.specs.Commands.{Instruction, insert, remove, add_pivot, remove_pivot, nearest, encode, Fits, meant, cut, read_refusal, Next, Exact}
-
--- what holds of an option holds of the value that `ok_or` and `?` took out of it
-pub came : {V : Type 0} (P : Option V → Type 0) (o : Option V) (r : Result V Refusal) (v : V) → o ≡ result_ok r → r ≡ Ok v → P o → P (Some v)
-came P o r v e f p = subst P (e ∙ ap result_ok f) p
-
-pub empty : (l : List ℕ) → length l < 1 → l ≡ []
-empty [] h = refl
-empty (x ∷ l) h = absurd (omega arith)
-
--- the parts of a search, joined
-pub nearest_joined : (bytes r₁ r₂ r₃ ws rows rest : List ℕ) (g k radius budget : ℕ)
-    → bytes ≡ g ∷ r₁ → r₁ ≡ ws ++ r₂ → r₂ ≡ be16 k ++ (be32 radius ++ (be32 budget ++ r₃)) → r₃ ≡ rows ++ rest
-    → 0x43 ∷ bytes ≡ encode (nearest g ws k radius budget rows) ++ rest
-nearest_joined bytes r₁ r₂ r₃ ws rows rest g k radius budget a b c d =
-    let e = append_assoc ws (be16 k ++ (be32 radius ++ (be32 budget ++ rows))) rest in cc
 
 -- a decoder, to tell that no two commands are written alike
 get16 : List ℕ → ℕ

@@ -64,9 +64,9 @@ Part n bytes None = length bytes < n
 Part n bytes (Some p) = (bytes ≡ p.0.now ++ p.1.now) × (length p.0.now ≡ n) × (length bytes ≡ n + length p.1.now)
 
 -- the operands behind a letter: a command and what follows it, or too few bytes
-abbrev pub Operands : Format → (byte size : ℕ) (bytes : List ℕ) → Result (Command × Bor (List ℕ)) Refusal → Type 0
-Operands f byte size bytes (Ok p) = (byte ∷ bytes ≡ encode (meant p.0) ++ p.1.now) × Fits f (meant p.0) × (length bytes ≡ size + length p.1.now)
-Operands f byte size bytes (Err e) = (e ≡ CutShort) × (length bytes < size)
+abbrev pub Operands : Format → (byte size : ℕ) (bytes : List ℕ) → Option (Command × Bor (List ℕ)) → Type 0
+Operands f byte size bytes None = length bytes < size
+Operands f byte size bytes (Some p) = (byte ∷ bytes ≡ encode (meant p.0) ++ p.1.now) × Fits f (meant p.0) × (length bytes ≡ size + length p.1.now)
 
 -- what stands behind any byte: a command and what follows it, or why there is none
 abbrev pub Behind : Format → (byte : ℕ) (bytes : List ℕ) → Result (Command × Bor (List ℕ)) Refusal → Type 0

@@ -126,10 +126,10 @@ fn aggregate_all<S: ChannelSet, A: Aggregate>(
 {
     let channels = set.channels();
     let mut entries: [Weighted; 8] = [0; 8];
-    for c in 0..channels {
-        entries[c] = weighted_in(set, c, weights, query, patch);
+    for (c, entry) in entries[..channels].iter_mut().enumerate() {
+        *entry = weighted_in(set, c, weights, query, patch);
     }
-    aggregate.combine(&entries[0..channels])
+    aggregate.combine(&entries[..channels])
 }
 
 // Whether two patches can be compared in every channel.

@@ -38,3 +38,8 @@ pub record Listed : Type 0 where
 abbrev pub answered : {V : Type 0} → Option Refusal → V → Result V Refusal
 answered None v = Ok v
 answered (Some e) v = Err e
+
+-- the number that a call answers: 0, or its refusal's
+abbrev pub code_of : Result (Unit {0}) Refusal → ℕ
+code_of (Ok x) = 0
+code_of (Err e) = number e

@@ -2,7 +2,7 @@
 #![tactic(auto)]
 
 ghost use Rattle.std.specs.Prelude.{◌≡◌, MatchOption};
-ghost use Rattle.refusal.specs.Refusals.{number, listed, Listed};
+ghost use Rattle.refusal.specs.Refusals.{number, listed, Listed, code_of};
 
 /// Why a call is refused. Each case has a number that users know; they are fixed.
 #[derive(Clone, Copy, PartialEq, Eq, Debug)]
@@ -65,5 +65,15 @@ impl Refusal {
             Refusal::CutShort => 15,
             Refusal::UnknownAggregate => 16,
         }
+    }
+}
+
+/// The number that a call answers: 0, or its refusal's.
+pub fn code(outcome: Result<(), Refusal>) -> u8
+    ensures { result ≡ code_of outcome }
+{
+    match outcome {
+        Ok(()) => 0,
+        Err(refusal) => refusal.number(),
     }
 }
