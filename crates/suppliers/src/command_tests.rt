@@ -9,45 +9,6 @@ const FORMAT: Format = Format {
     rows: 3,
 };
 
-// A command as numbers, so that it can be compared: its letter, its numbers and the first byte of its rows.
-fn told(command: Option<Command>) -> (u8, u32, u32, u32, u8) {
-    match command {
-        Some(Command::Insert { accession, rows }) => (
-            b'L',
-            accession as u32,
-            0,
-            0,
-            rows.first().copied().unwrap_or(0),
-        ),
-        Some(Command::Remove { accession }) => (b'U', accession as u32, 0, 0, 0),
-        Some(Command::AddPivot { channel, accession }) => (
-            b'P',
-            channel as u32,
-            accession as u32,
-            0,
-            0,
-        ),
-        Some(Command::RemovePivot { channel, pivot }) => (b'R', channel as u32, pivot as u32, 0, 0),
-        Some(
-            Command::Nearest {
-                aggregate,
-                weights: _,
-                k,
-                radius,
-                budget,
-                rows,
-            },
-        ) => (
-            aggregate,
-            k as u32,
-            radius,
-            budget,
-            rows.first().copied().unwrap_or(0),
-        ),
-        None => (0, 0, 0, 0, 0),
-    }
-}
-
 #[test]
 fn one_of_each(rt: HostRuntime) -> Result<(), Fail> {
     let input = [
@@ -55,12 +16,40 @@ fn one_of_each(rt: HostRuntime) -> Result<(), Fail> {
         11, 0x00, 0x05, 0, 0, 3, 0xe8, 0xff, 0xff, 0xff, 0xff, 4, 5, 6,
     ];
     let mut reader = Reader::new(FORMAT, &input);
-    assert_eq!(rt; told(reader.next()?), (b'L', 258, 0, 0, 7));
-    assert_eq!(rt; told(reader.next()?), (b'U', 65534, 0, 0, 0));
-    assert_eq!(rt; told(reader.next()?), (b'P', 3, 5, 0, 0));
-    assert_eq!(rt; told(reader.next()?), (b'R', 1, 2, 0, 0));
-    assert_eq!(rt; told(reader.next()?), (2, 5, 1000, 4294967295, 4));
-    assert_eq!(rt; told(reader.next()?), (0, 0, 0, 0, 0));
+    assert_eq!(rt;
+        reader.next()?,
+        Some(Command::Insert {
+            accession: 258,
+            rows: &[7, 8, 9],
+        })
+    );
+    assert_eq!(rt; reader.next()?, Some(Command::Remove { accession: 65534 }));
+    assert_eq!(rt;
+        reader.next()?,
+        Some(Command::AddPivot {
+            channel: 3,
+            accession: 5,
+        })
+    );
+    assert_eq!(rt;
+        reader.next()?,
+        Some(Command::RemovePivot {
+            channel: 1,
+            pivot: 2,
+        })
+    );
+    assert_eq!(rt;
+        reader.next()?,
+        Some(Command::Nearest {
+            aggregate: 2,
+            weights: &[10, 11],
+            k: 5,
+            radius: 1000,
+            budget: 4294967295,
+            rows: &[4, 5, 6],
+        })
+    );
+    assert_eq!(rt; reader.next()?, None);
     Ok(())
 }
 
@@ -79,6 +68,16 @@ fn input_that_ends_too_soon(rt: HostRuntime) -> Result<(), Fail> {
         assert_eq!(rt; reader.next().err(), Some(Refusal::CutShort));
     }
     let mut reader = Reader::new(FORMAT, &whole);
-    assert_eq!(rt; told(reader.next()?), (2, 5, 1000, 9, 4));
+    assert_eq!(rt;
+        reader.next()?,
+        Some(Command::Nearest {
+            aggregate: 2,
+            weights: &[10, 11],
+            k: 5,
+            radius: 1000,
+            budget: 9,
+            rows: &[4, 5, 6],
+        })
+    );
     Ok(())
 }
