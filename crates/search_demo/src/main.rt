@@ -2,12 +2,11 @@
 #![tactic(auto)]
 
 use anyhow::anyhow;
-use compare::compare_two;
+use comparison::compare_two;
 use questions::{QUESTIONS, Question};
 use refusal::Refusal;
-use supplier::{PATCHES, Reply, Supplier};
+use supplier::{PATCHES, QUERY, Reply, Supplier};
 
-mod compare;
 mod questions;
 mod supplier;
 
@@ -63,12 +62,7 @@ fn tell_reply(rt: &HostRuntime, name: &str, reply: &Reply) -> anyhow::Result<()>
 
 // Whether one list begins the other.
 fn lists_agree(a: &Reply, b: &Reply) -> bool {
-    for (x, y) in a.named().iter().zip(b.named()) {
-        if x.accession != y.accession || x.distance != y.distance {
-            return false;
-        }
-    }
-    true
+    a.named().iter().zip(b.named()).all(|(x, y)| x == y)
 }
 
 fn verdict(a: &Reply, b: &Reply) -> &'static str {
@@ -133,7 +127,7 @@ fn introduce(rt: &HostRuntime) -> anyhow::Result<()> {
 }
 
 fn run(rt: &HostRuntime) -> anyhow::Result<()> {
-    compare_two(rt)?;
+    compare_two(rt, &QUERY, &PATCHES[4], &PATCHES[8])?;
     introduce(rt)?;
     let mut first = served(Supplier::new())?;
     served(first.take_in_order())?;

@@ -1,15 +1,12 @@
 //! A supplier of patches: an index over the bench's channels, with its store.
 use crate::questions::Question;
 use bench::{Bench, bench};
+use comparison::Patch;
 use engine::records::{Answer, Candidate, Neighbor};
 use index::pivot_index::PivotIndex;
 use queue::rank::Upper;
 use refusal::Refusal;
 use search::{Query, nearest};
-
-/// A patch: its accession number, and its rows in bands, ink, grain and depth.
-#[derive(Clone, Copy)]
-pub struct Patch(pub u16, pub [u8; 12]);
 
 /// The fragment's patches.
 pub const PATCHES: [Patch; 12] = [

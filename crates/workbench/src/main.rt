@@ -1,17 +1,17 @@
 //! The bench program: commands from standard input, lines to standard output.
 #![tactic(auto)]
 
-ghost use Rattle.std.specs.Prelude.{◌≤◌, length, IfOk};
-
 use anyhow::anyhow;
 use bench::bench;
 use command::format::Format;
 use console::run;
 use index::pivot_index::PivotIndex;
-use std::io;
 use std::io::Read;
 
 const SLOTS: u16 = 64;
+
+// How many bytes of the input are read at most.
+const INPUT: u64 = 32768;
 
 // One weight for each of the bench's four channels, and the 12 bytes of a patch.
 const FORMAT: Format = Format {
@@ -19,30 +19,15 @@ const FORMAT: Format = Format {
     rows: 12,
 };
 
-// Reads until the buffer is full or the input ends; how many bytes came.
-fn fill(source: &mut impl Read, buffer: &mut [u8]) -> io::Result<usize>
-    ensures { IfOk result (λ n. n ≤ length buffer.old) }
-{
-    let mut len = 0;
-    for _ in 0..buffer.len() {
-        let got = source.read(&mut buffer[len..])?;
-        if got == 0 {
-            break;
-        }
-        len += got;
-    }
-    Ok(len)
-}
-
 fn serve(rt: &HostRuntime) -> anyhow::Result<()> {
-    let mut input = [0u8; 32768];
-    let len = fill(&mut rt.stdin(), &mut input)?;
+    let mut input = Vec::new(rt.alloc());
+    rt.stdin().take(INPUT).read_to_end(&mut input)?;
     let mut store = [0u8; 5088];
     let Ok(mut index) = PivotIndex::new(bench(), SLOTS, &mut store) else {
         return Err(anyhow!("the store does not fit the bench's channels"));
     };
     let mut lines = String::new(rt.alloc());
-    if run(&mut index, &mut store, FORMAT, &input[0..len], &mut lines).is_err() {
+    if run(&mut index, &mut store, FORMAT, input.as_slice(), &mut lines).is_err() {
         return Err(anyhow!("no memory for the lines"));
     }
     rt.print(lines.as_str())?;

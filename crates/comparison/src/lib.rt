@@ -1,10 +1,15 @@
-//! Two patches are measured against the query, channel by channel.
-use crate::supplier::{PATCHES, Patch, QUERY};
+//! Two patches are measured against a query on the bench's four channels, and the program says how they compare.
+#![tactic(auto)]
+
 use aggregate::{Max, Min, Sum, Weighted};
 use anyhow::anyhow;
 use bench::{Bench, bench};
 use patch::{aggregated_distance, channel_distance};
 use refusal::Refusal;
+
+/// A patch: its accession number, and its rows in bands, ink, grain and depth.
+#[derive(Clone, Copy, PartialEq, Eq, Debug)]
+pub struct Patch(pub u16, pub [u8; 12]);
 
 // What is measured between the query and a patch.
 #[derive(Clone, Copy)]
@@ -19,18 +24,18 @@ struct Comparison {
     least: Weighted,
 }
 
-fn compare(set: &mut Bench, patch: &Patch) -> Result<Comparison, Refusal> {
+fn compare(set: &mut Bench, query: &[u8], patch: &Patch) -> Result<Comparison, Refusal> {
     let Patch(number, rows) = patch;
     let weights = [1u8; 4];
     Ok(Comparison {
         number: *number,
-        bands: channel_distance(set, 0, &QUERY, rows)?,
-        ink: channel_distance(set, 1, &QUERY, rows)?,
-        grain: channel_distance(set, 2, &QUERY, rows)?,
-        depth: channel_distance(set, 3, &QUERY, rows)?,
-        sum: aggregated_distance(set, &Sum, &weights, &QUERY, rows)?,
-        greatest: aggregated_distance(set, &Max, &weights, &QUERY, rows)?,
-        least: aggregated_distance(set, &Min, &weights, &QUERY, rows)?,
+        bands: channel_distance(set, 0, query, rows)?,
+        ink: channel_distance(set, 1, query, rows)?,
+        grain: channel_distance(set, 2, query, rows)?,
+        depth: channel_distance(set, 3, query, rows)?,
+        sum: aggregated_distance(set, &Sum, &weights, query, rows)?,
+        greatest: aggregated_distance(set, &Max, &weights, query, rows)?,
+        least: aggregated_distance(set, &Min, &weights, query, rows)?,
     })
 }
 
@@ -73,13 +78,18 @@ fn judge(
     Ok(())
 }
 
-/// Measures patches 5 and 9 against the query, and says which is nearer.
-pub fn compare_two(rt: &HostRuntime) -> anyhow::Result<()> {
+/// Measures two patches against a query, and says which is nearer by each aggregate.
+pub fn compare_two(
+    rt: &HostRuntime,
+    query: &[u8],
+    first: &Patch,
+    second: &Patch,
+) -> anyhow::Result<()> {
     let mut set = bench();
     println!(rt; "Two patches are measured against a query, channel by channel.")?;
     let (Ok(a), Ok(b)) = (
-        compare(&mut set, &PATCHES[4]),
-        compare(&mut set, &PATCHES[8]),
+        compare(&mut set, query, first),
+        compare(&mut set, query, second),
     ) else {
         return Err(anyhow!("a patch does not fit the bench's channels"));
     };
