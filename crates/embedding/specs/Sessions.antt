@@ -1,9 +1,9 @@
 -- Commands served.
-use Rattle.std.specs.Prelude.{ℕ, Ok, Err, Result}
-use Rattle.refusal.specs.declared.Refusal.{Refusal}
-use Rattle.refusal.specs.Refusals.{number}
+use Rattle.std.specs.Prelude.{ℕ}
+use Rattle.core.specs.declared.ops.ControlFlow.{ControlFlow}
+use Rattle.core.specs.declared.ops.ControlFlow.TheVariants.{Continue, Break}
 
--- 0, or the number of the refusal
-abbrev pub code_of : Result (Unit {0}) Refusal → ℕ
-code_of (Ok x) = 0
-code_of (Err e) = number e
+-- how far the answers go, whether there may be more or not
+abbrev pub reached : ControlFlow ℕ ℕ → ℕ
+reached (Continue n) = n
+reached (Break n) = n

@@ -4,34 +4,15 @@ ghost use Rattle.embedding.specs.Answers.{Wrote};
 
 use engine::records::{Answer, Neighbor};
 
-// Writes two bytes; where the next are written.
-pub(crate) fn put_two(answers: &mut [u8], at: usize, a: u8, b: u8) -> usize
-    requires { at + 2 ≤ length answers.old }
-    ensures next { result ≡ at + 2 }
+// Writes bytes; where the next are written.
+pub(crate) fn put(answers: &mut [u8], at: usize, bytes: &[u8]) -> usize
+    requires { at + length bytes.now ≤ length answers.old }
+    ensures next { result ≡ at + length bytes.now }
     ensures wrote { Wrote at result answers.old answers.new }
 {
-    answers[at] = a;
-    answers[at + 1] = b;
-    at + 2
-}
-
-pub(crate) fn put_u16(answers: &mut [u8], at: usize, n: u16) -> usize
-    requires { at + 2 ≤ length answers.old }
-    ensures next { result ≡ at + 2 }
-    ensures wrote { Wrote at result answers.old answers.new }
-{
-    let [high, low] = n.to_be_bytes();
-    put_two(answers, at, high, low)
-}
-
-fn put_u32(answers: &mut [u8], at: usize, n: u32) -> usize
-    requires { at + 4 ≤ length answers.old }
-    ensures next { result ≡ at + 4 }
-    ensures wrote { Wrote at result answers.old answers.new }
-{
-    let [a, b, c, d] = n.to_be_bytes();
-    let next = put_two(answers, at, a, b);
-    put_two(answers, next, c, d)
+    let end = at + bytes.len();
+    answers[at..end].copy_from_slice(bytes);
+    end
 }
 
 // A hit: accession number and distance, 6 bytes.
@@ -40,8 +21,8 @@ fn put_hit(answers: &mut [u8], at: usize, hit: Neighbor) -> usize
     ensures next { result ≡ at + 6 }
     ensures wrote { Wrote at result answers.old answers.new }
 {
-    let next = put_u16(answers, at, hit.accession);
-    put_u32(answers, next, hit.distance)
+    let next = put(answers, at, &hit.accession.to_be_bytes());
+    put(answers, next, &hit.distance.to_be_bytes())
 }
 
 // What a search came to: 10 bytes.
@@ -50,10 +31,10 @@ fn put_numbers(answers: &mut [u8], at: usize, answer: Answer) -> usize
     ensures next { result ≡ at + 10 }
     ensures wrote { Wrote at result answers.old answers.new }
 {
-    let next = put_u16(answers, at, answer.complete as u16);
-    let next = put_u16(answers, next, answer.named);
-    let next = put_u32(answers, next, answer.measured);
-    put_u16(answers, next, answer.admitted)
+    let next = put(answers, at, &u16::from(answer.complete).to_be_bytes());
+    let next = put(answers, next, &answer.named.to_be_bytes());
+    let next = put(answers, next, &answer.measured.to_be_bytes());
+    put(answers, next, &answer.admitted.to_be_bytes())
 }
 
 // The hits, 6 bytes each.
@@ -63,8 +44,8 @@ fn put_hits(answers: &mut [u8], at: usize, hits: &[Neighbor]) -> usize
     ensures wrote { Wrote at result answers.old answers.new }
 {
     let mut next = at;
-    for i in 0..hits.len() {
-        next = put_hit(answers, next, hits[i]);
+    for hit in hits {
+        next = put_hit(answers, next, *hit);
     }
     next
 }
@@ -75,7 +56,7 @@ pub(crate) fn put_answer(answers: &mut [u8], at: usize, answer: Answer, hits: &[
     ensures next { result ≡ at + 12 + 6 * length hits.now }
     ensures wrote { Wrote at result answers.old answers.new }
 {
-    let next = put_two(answers, at, 0x43, 0);
+    let next = put(answers, at, b"C\x00");
     let next = put_numbers(answers, next, answer);
     put_hits(answers, next, hits)
 }

@@ -6,6 +6,7 @@ use crate::memory::{begin, size};
 use crate::session::serve_in;
 use bench::bench;
 use command::format::Format;
+use refusal::code;
 
 // One weight for each of the four channels, and the 12 bytes of a patch.
 const FORMAT: Format = Format {
@@ -16,13 +17,13 @@ const FORMAT: Format = Format {
 /// How many bytes an index of that many slots takes; 0 where there are more than 4,096.
 #[unsafe(no_mangle)]
 pub extern "C" fn embedding_bench_size(capacity: u16) -> usize {
-    size(&bench(), capacity)
+    size(&bench(), capacity).unwrap_or(0)
 }
 
 /// Begins an index of no patches: 0, or the number of the refusal, 12, which changes nothing.
 #[unsafe(no_mangle)]
 pub extern "C" fn embedding_bench_new(memory: &mut [u8], capacity: u16) -> u8 {
-    begin(bench(), memory, capacity)
+    code(begin(bench(), memory, capacity))
 }
 
 /// Serves commands and writes their answers, one behind another; how many bytes. A command for whose answer there is no room is not

@@ -4,19 +4,13 @@ ghost use Rattle.index.specs.Limits.{no_record};
 ghost use Rattle.embedding.specs.Answers.{Wrote};
 ghost use Rattle.embedding.specs.Memories.{Sane};
 
-use crate::answers::{put_two, put_u16};
+use crate::answers::put;
+use big_endian::get_u16;
 use index::counts::{ChannelRecord, Counts};
 use index::layout::layout_of;
 use index::pivot_index::PivotIndex;
 use metric::channels::ChannelSet;
 use refusal::Refusal;
-
-// The number of two bytes.
-fn get_u16(memory: &[u8], at: usize) -> u16
-    requires { at + 2 ≤ length memory.now }
-{
-    u16::from_be_bytes([memory[at], memory[at + 1]])
-}
 
 // The number of pivots of each channel; none where one has more than eight.
 fn channels_in(memory: &[u8]) -> Option<[ChannelRecord; 8]>
@@ -24,12 +18,11 @@ fn channels_in(memory: &[u8]) -> Option<[ChannelRecord; 8]>
     ensures { IfSome result (λ xs. (c : ℕ) → (slice_index_or xs c no_record).pivots ≤ 8) }
 {
     let mut channels = [ChannelRecord { pivots: 0 }; 8];
-    for c in 0..8 {
-        let pivots = memory[4 + c];
-        if pivots > 8 {
+    for (record, pivots) in channels.iter_mut().zip(&memory[4..12]) {
+        if *pivots > 8 {
             return None;
         }
-        channels[c] = ChannelRecord { pivots };
+        record.pivots = *pivots;
     }
     Some(channels)
 }
@@ -66,33 +59,29 @@ pub(crate) fn save(memory: &mut [u8], counts: &Counts)
     requires { 16 ≤ length memory.old }
     ensures { Wrote 0 12 memory.old memory.new }
 {
-    let next = put_u16(memory, 0, counts.capacity);
-    let next = put_u16(memory, next, counts.held);
-    let [a, b, c, d, e, f, g, h] = counts.channels;
-    let next = put_two(memory, next, a.pivots, b.pivots);
-    let next = put_two(memory, next, c.pivots, d.pivots);
-    let next = put_two(memory, next, e.pivots, f.pivots);
-    let _end = put_two(memory, next, g.pivots, h.pivots);
+    let next = put(memory, 0, &counts.capacity.to_be_bytes());
+    let next = put(memory, next, &counts.held.to_be_bytes());
+    let _end = put(memory, next, &counts.channels.map(|record| record.pivots));
 }
 
-// How many bytes a memory for that many slots has; 0 where there are more than 4,096.
-pub(crate) fn size<S: ChannelSet>(set: &S, capacity: u16) -> usize {
+// How many bytes a memory for that many slots has; none where there are more than 4,096.
+pub(crate) fn size<S: ChannelSet>(set: &S, capacity: u16) -> Option<usize> {
     if capacity > 4096 {
-        return 0;
+        return None;
     }
-    16 + layout_of(set, capacity).size
+    Some(16 + layout_of(set, capacity).size)
 }
 
-// Begins an index of no patches: 0, or the number of the refusal.
-pub(crate) fn begin<S: ChannelSet + Drop>(set: S, memory: &mut [u8], capacity: u16) -> u8 {
+// Begins an index of no patches. Refused: 12.
+pub(crate) fn begin<S: ChannelSet + Drop>(
+    set: S,
+    memory: &mut [u8],
+    capacity: u16,
+) -> Result<(), Refusal> {
     if memory.len() < 16 {
-        return Refusal::BadStore.number();
+        return Err(Refusal::BadStore);
     }
-    match PivotIndex::new(set, capacity, &mut memory[16..]) {
-        Ok(index) => {
-            save(memory, &index.counts);
-            0
-        }
-        Err(refusal) => refusal.number(),
-    }
+    let index = PivotIndex::new(set, capacity, &mut memory[16..])?;
+    save(memory, &index.counts);
+    Ok(())
 }

@@ -1,9 +1,9 @@
 //! Commands served, one after another.
 ghost use Rattle.std.specs.Prelude.{◌≡◌, ◌+◌, ◌*◌, ◌<◌, ◌≤◌, min, length, IfOk, MatchOption};
 ghost use Rattle.embedding.specs.Answers.{Wrote};
-ghost use Rattle.embedding.specs.Sessions.{code_of};
+ghost use Rattle.embedding.specs.Sessions.{reached};
 
-use crate::answers::{put_answer, put_two};
+use crate::answers::{put, put_answer};
 use crate::memory::{open, save};
 use aggregate::Choice;
 use command::format::Format;
@@ -12,18 +12,9 @@ use engine::records::{Answer, Candidate, Neighbor};
 use index::pivot_index::PivotIndex;
 use metric::channels::ChannelSet;
 use queue::rank::Upper;
-use refusal::Refusal;
+use refusal::{Refusal, code};
 use search::{Query, nearest};
-
-// The number that a call answers: 0, or its refusal's.
-fn code(r: Result<(), Refusal>) -> u8
-    ensures { result ≡ code_of r }
-{
-    match r {
-        Ok(()) => 0,
-        Err(refusal) => refusal.number(),
-    }
-}
+use std::ops::ControlFlow;
 
 // A question of a command.
 #[derive(Clone, Copy)]
@@ -47,25 +38,14 @@ fn ask<S: ChannelSet>(
 ) -> Result<Answer, Refusal>
     ensures { IfOk result (λ a. a.named ≤ length hits.old) }
 {
-    let Some(aggregate) = Choice::from_number(asked.aggregate) else {
-        return Err(Refusal::UnknownAggregate);
-    };
     let query = Query {
         rows: asked.rows,
         weights: asked.weights,
-        aggregate,
+        aggregate: Choice::try_from(asked.aggregate)?,
         k: asked.k,
         radius: asked.radius,
     };
-    let answer = nearest(index, store, &query, asked.budget, hits, candidates, uppers);
-    let Query {
-        rows: _,
-        weights: _,
-        aggregate: _,
-        k: _,
-        radius: _,
-    } = query;
-    answer
+    nearest(index, store, &query, asked.budget, hits, candidates, uppers)
 }
 
 // Serves a search and writes its answer; where the next is written.
@@ -84,7 +64,7 @@ fn serve_search<S: ChannelSet>(
 {
     match ask(index, store, asked, hits, candidates, uppers) {
         Ok(answer) => put_answer(answers, at, answer, &hits[0..answer.named as usize]),
-        Err(refusal) => put_two(answers, at, 0x43, refusal.number()),
+        Err(refusal) => put(answers, at, &[b'C', refusal.number()]),
     }
 }
 
@@ -117,19 +97,19 @@ fn serve<S: ChannelSet>(
     match command {
         Command::Insert { accession, rows } => {
             let number = code(index.insert(store, accession, rows));
-            Some(put_two(answers, at, 0x4c, number))
+            Some(put(answers, at, &[b'L', number]))
         }
         Command::Remove { accession } => {
             let number = code(index.remove(store, accession));
-            Some(put_two(answers, at, 0x55, number))
+            Some(put(answers, at, &[b'U', number]))
         }
         Command::AddPivot { channel, accession } => {
             let number = code(index.add_pivot(store, channel, accession));
-            Some(put_two(answers, at, 0x50, number))
+            Some(put(answers, at, &[b'P', number]))
         }
         Command::RemovePivot { channel, pivot } => {
             let number = code(index.remove_pivot(store, channel, pivot));
-            Some(put_two(answers, at, 0x52, number))
+            Some(put(answers, at, &[b'R', number]))
         }
         Command::Nearest {
             aggregate,
@@ -169,13 +149,8 @@ fn serve<S: ChannelSet>(
     }
 }
 
-// How far the answers go, and whether there may be more.
-struct Reached {
-    next: usize,
-    more: bool,
-}
-
-// Serves the next command, if there is one and room for its answer. One that cannot be read is answered by `?` and why, and ends it.
+// Serves the next command, if there is one and room for its answer; where the next answer is written, and whether there may be one. A
+// command that cannot be read is answered by `?` and why, and ends it.
 fn turn<S: ChannelSet>(
     index: &mut PivotIndex<S>,
     store: &mut [u8],
@@ -185,33 +160,20 @@ fn turn<S: ChannelSet>(
     hits: &mut [Neighbor],
     candidates: &mut [Candidate],
     uppers: &mut [Upper],
-) -> Reached
+) -> ControlFlow<usize, usize>
     requires { at ≤ length answers.old }
-    ensures { Wrote at result.next answers.old answers.new }
+    ensures { Wrote at (reached result) answers.old answers.new }
 {
-    let next = match reader.next() {
-        Ok(next) => next,
-        Err(refusal) => {
-            let next = if answers.len() - at < 2 {
-                at
-            } else {
-                put_two(answers, at, 0x3f, refusal.number())
-            };
-            return Reached { next, more: false };
-        }
-    };
-    let Some(command) = next else {
-        return Reached {
-            next: at,
-            more: false,
-        };
-    };
-    match serve(index, store, command, answers, at, hits, candidates, uppers) {
-        Some(next) => Reached { next, more: true },
-        None => Reached {
-            next: at,
-            more: false,
+    match reader.next() {
+        Ok(Some(command)) => match serve(
+            index, store, command, answers, at, hits, candidates, uppers,
+        ) {
+            Some(next) => ControlFlow::Continue(next),
+            None => ControlFlow::Break(at),
         },
+        Ok(None) => ControlFlow::Break(at),
+        Err(_) if answers.len() - at < 2 => ControlFlow::Break(at),
+        Err(refusal) => ControlFlow::Break(put(answers, at, &[b'?', refusal.number()])),
     }
 }
 
@@ -232,7 +194,7 @@ pub(crate) fn run<S: ChannelSet>(
     let mut reader = Reader::new(format, commands);
     let mut len: usize = 0;
     for _ in 0..commands.len() {
-        let Reached { next, more } = turn(
+        match turn(
             index,
             store,
             &mut reader,
@@ -241,10 +203,9 @@ pub(crate) fn run<S: ChannelSet>(
             hits,
             candidates,
             uppers,
-        );
-        len = next;
-        if !more {
-            break;
+        ) {
+            ControlFlow::Continue(next) => len = next,
+            ControlFlow::Break(end) => return end,
         }
     }
     len
