@@ -33,10 +33,6 @@ abbrev pub code : Option Refusal → ℕ
 code None = 0
 code (Some e) = number e
 
-abbrev pub code_of : Result (Unit {0}) Refusal → ℕ
-code_of (Ok x) = 0
-code_of (Err e) = number e
-
 -- what an index and its store hold
 abbrev pub written : Counts → List ℕ → Written
 written k b = record { counts = k; bytes = b }

@@ -4,55 +4,39 @@
 ghost use Rattle.std.specs.Prelude.{◌≡◌, ℕ, List, ◌++◌, IfOk, string_bytes, OnOk};
 ghost use Rattle.command.specs.Commands.{meant};
 ghost use Rattle.patch.specs.Patches.{few};
-ghost use Rattle.refusal.specs.Refusals.{number};
+ghost use Rattle.refusal.specs.Refusals.{number, code_of};
 ghost use Rattle.console.specs.Lines.{line};
-ghost use Rattle.console.specs.Sessions.{NextServed, Turn, Session, Serves, written, code_of};
+ghost use Rattle.console.specs.Sessions.{NextServed, Turn, Session, Serves, written};
 
 use command::format::Format;
 use command::{Command, Reader};
 use index::pivot_index::PivotIndex;
 use metric::channels::ChannelSet;
-use refusal::Refusal;
+use refusal::{Refusal, code};
 use std::fmt;
 
-// Prints a letter and a number.
-fn print_line(out: &mut String, letter: &str, number: u8) -> fmt::Result
+/// Prints a letter and a number.
+pub fn print_line(out: &mut String, letter: &str, number: u8) -> fmt::Result
     ensures { OnOk result (string_bytes out.new ≡ string_bytes out.old ++ line letter.now number) }
 {
     write!(out, "{letter} {number}\n")?;
     Ok(())
 }
 
-// The number that a call answers: 0, or its refusal's.
-fn code(r: Result<(), Refusal>) -> u8
-    ensures { result ≡ code_of r }
-{
-    match r {
-        Ok(()) => 0,
-        Err(refusal) => refusal.number(),
-    }
-}
-
-// Serves a command: the letter that answers it, and 0 or its refusal's number.
-fn serve<S: ChannelSet>(
+/// Serves a command: the letter that answers it, and what it comes to. A search is not served, and changes nothing.
+pub fn serve<S: ChannelSet>(
     index: &mut PivotIndex<S>,
     store: &mut [u8],
     command: Command,
-) -> (&'static str, u8)
-    ensures serves { Serves (few (S.models index.old.set)) (written index.old.counts store.old) (written index.new.counts store.new) (meant command.entry) result.0.now result.1 }
+) -> (&'static str, Result<(), Refusal>)
+    ensures serves { Serves (few (S.models index.old.set)) (written index.old.counts store.old) (written index.new.counts store.new) (meant command.entry) result.0.now (code_of result.1) }
     ensures same { S.models index.new.set ≡ S.models index.old.set }
 {
     match command {
-        Command::Insert { accession, rows } => ("L", code(index.insert(store, accession, rows))),
-        Command::Remove { accession } => ("U", code(index.remove(store, accession))),
-        Command::AddPivot { channel, accession } => (
-            "P",
-            code(index.add_pivot(store, channel, accession)),
-        ),
-        Command::RemovePivot { channel, pivot } => (
-            "R",
-            code(index.remove_pivot(store, channel, pivot)),
-        ),
+        Command::Insert { accession, rows } => ("L", index.insert(store, accession, rows)),
+        Command::Remove { accession } => ("U", index.remove(store, accession)),
+        Command::AddPivot { channel, accession } => ("P", index.add_pivot(store, channel, accession)),
+        Command::RemovePivot { channel, pivot } => ("R", index.remove_pivot(store, channel, pivot)),
         Command::Nearest {
             aggregate: _,
             weights: _,
@@ -60,7 +44,7 @@ fn serve<S: ChannelSet>(
             radius: _,
             budget: _,
             rows: _,
-        } => ("C", 0),
+        } => ("C", Ok(())),
     }
 }
 
@@ -96,8 +80,8 @@ fn turn<S: ChannelSet>(
     let Some(command) = next else {
         return Ok(false);
     };
-    let (letter, number) = serve(index, store, command);
-    print_line(out, letter, number)?;
+    let (letter, outcome) = serve(index, store, command);
+    print_line(out, letter, code(outcome))?;
     Ok(true)
 }
 
@@ -114,9 +98,6 @@ pub fn run<S: ChannelSet>(
     ensures session { OnOk result ((printed : List ℕ) × Session (few (S.models index.old.set)) format (written index.old.counts store.old) input.now printed (written index.new.counts store.new) × (string_bytes out.new ≡ string_bytes out.old ++ printed)) }
 {
     let mut reader = Reader::new(format, input);
-    let mut more = true;
-    while more {
-        more = turn(index, store, &mut reader, out)?;
-    }
+    while turn(index, store, &mut reader, out)? {}
     Ok(())
 }

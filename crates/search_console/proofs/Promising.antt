@@ -18,7 +18,8 @@ use Rattle.engine.specs.declared.records.Neighbor.{Neighbor}
 use Rattle.search.specs.Refusals.{handed, Granted}
 use Rattle.search.specs.Promised.{question}
 use Rattle.search.proofs.Granting.{keeps}
-use Rattle.search_console.specs.Sessions.{Room, Session, over, unread, next, Says, Replies, nearest_refusal, call_of, unfollowed}
+use Rattle.console.specs.Sessions.{call_of}
+use Rattle.search_console.specs.Sessions.{Room, Session, over, unread, next, Says, Replies, nearest_refusal, unfollowed}
 use Rattle.search_console.specs.Promises.{Kept, Tells, PromisedSession, Promised, over as all_read, unread as not_read, next as and_next}
 use Rattle.search_console.proofs.Finding.{checked}
 

@@ -6,31 +6,28 @@ use Rattle.refusal.specs.Refusals.{answered}
 use Rattle.refusal.specs.declared.Refusal.{Refusal}
 use Rattle.metric.specs.Model.{Model}
 use Rattle.command.specs.declared.Command.{Command}
-use Rattle.command.specs.Commands.{Instruction, meant, nearest}
+use Rattle.command.specs.Commands.{Instruction, meant, insert, remove, add_pivot, remove_pivot, nearest}
 use Rattle.index.specs.History.{Written, call}
 use Rattle.engine.specs.declared.records.Answer.{Answer}
 use Rattle.engine.specs.declared.records.Neighbor.{Neighbor}
-use Rattle.search_console.specs.Lines.{line, search_lines}
-use Rattle.search_console.specs.Sessions.{Room, Replies, call_of, code, code_of, Says, Serves}
+use Rattle.console.specs.Lines.{line}
+use Rattle.console.specs.Sessions.{call_of, Served, Serves as Answers}
+use Rattle.search_console.specs.Lines.{search_lines}
+use Rattle.search_console.specs.Sessions.{Room, Replies, Says, Serves}
 
-answered_code : (o : Option Refusal) → code_of (answered o tt) ≡ code o
-answered_code None = refl
-answered_code (Some e) = refl
+-- the command m, which says i, found w, left w' and is answered by `said`
+serves : (ms : List Model) (room : Room) (w w' : Written) (m : Command) (i : Instruction) → meant m ≡ i
+    → w'.counts ≡ (call ms (call_of i) w).counts → w'.bytes ≡ (call ms (call_of i) w).bytes → (said : List ℕ) → Says ms room w i said → Serves ms room w w' (meant m) said
+serves ms room w w' m i is k b said s =
+    subst (λ (j : Instruction). Serves ms room w w' j said) (sym is) (record { says = s; leaves = λ t. record { counts = k t; bytes = b t } })
 
-module _ (ms : List Model) (room : Room) (w w' : Written) (m : Command) (i : Instruction) (is : meant m ≡ i)
-    (k : w'.counts ≡ (call ms (call_of i) w).counts) (b : w'.bytes ≡ (call ms (call_of i) w).bytes) where
-  -- the command m, which says i, found w, left w' and is answered by `said`
-  serves : (said : List ℕ) → Says ms room w i said → Serves ms room w w' (meant m) said
-  serves said s =
-      subst (λ (j : Instruction). Serves ms room w w' j said) (sym is) (record { says = s; leaves = λ t. record { counts = k t; bytes = b t } })
-
-  -- a call that answered r, by its refusal o, of which a line was printed
-  pub served : (o : Option Refusal) (r : Result (Unit {0}) Refusal) (n : ℕ) (letter : List ℕ)
-      → ((said : List ℕ) → said ≡ line letter (code o) → Says ms room w i said) → n ≡ code_of r → r ≡ answered o tt
-      → (p : Result (Unit {0}) Error) (before after : List ℕ) → IfOk p (λ _. after ≡ before ++ line letter n)
-      → IfOk p (λ _. (said : List ℕ) × Serves ms room w w' (meant m) said × (after ≡ before ++ said))
-  served o r n letter says e f p before after printed =
-      IfOk-weaker p _ _ (λ _ h. (line letter n, serves (line letter n) (says (line letter n) (ap (line letter) (e ∙ ap code_of f ∙ answered_code o))), h)) printed
+-- a command that is no search was served and answered by a letter and a number, of which a line was printed
+pub changed : (ms : List Model) (room : Room) (w w' : Written) (i : Instruction) (l : List ℕ) (n : ℕ) → Served i → Answers ms w w' i l n → Serves ms room w w' i (line l n)
+changed ms room w w' (insert a rows) l n h s = record { says = λ j. line (s.says j) (s.number j); leaves = s.leaves }
+changed ms room w w' (remove a) l n h s = record { says = λ j. line (s.says j) (s.number j); leaves = s.leaves }
+changed ms room w w' (add_pivot c a) l n h s = record { says = λ j. line (s.says j) (s.number j); leaves = s.leaves }
+changed ms room w w' (remove_pivot c p) l n h s = record { says = λ j. line (s.says j) (s.number j); leaves = s.leaves }
+changed ms room w w' (nearest g ws k r b rows) l n h s = absurd h
 
 -- a search, of which the reply was printed
 pub searched : (ms : List Model) (room : Room) (w w' : Written) (m : Command) (g : ℕ) (ws : List ℕ) (k radius budget : ℕ) (rows : List ℕ)

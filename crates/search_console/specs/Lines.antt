@@ -2,12 +2,9 @@
 use Rattle.std.specs.Prelude.{ℕ, Bool, true, false, List, [], ◌∷◌, ◌++◌, take, Ok, Err, codes, decimal, Result}
 use Rattle.refusal.specs.Refusals.{number}
 use Rattle.refusal.specs.declared.Refusal.{Refusal}
+use Rattle.console.specs.Lines.{line}
 use Rattle.engine.specs.declared.records.Answer.{Answer}
 use Rattle.engine.specs.declared.records.Neighbor.{Neighbor}
-
--- a letter, a space, a number, the end of the line
-abbrev pub line : List ℕ → ℕ → List ℕ
-line letter n = letter ++ ((32 ∷ []) ++ (decimal n ++ (10 ∷ [])))
 
 -- 1 for a search that has finished, 0 for one that its budget stopped
 abbrev pub flag : Bool → ℕ

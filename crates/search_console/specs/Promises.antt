@@ -14,8 +14,10 @@ use Rattle.engine.specs.declared.records.Neighbor.{Neighbor}
 use Rattle.promise.specs.Promise.{Promise, contents, reply}
 use Rattle.search.specs.Refusals.{refused, Granted}
 use Rattle.search.specs.Promised.{question}
-use Rattle.search_console.specs.Lines.{line, search_lines}
-use Rattle.search_console.specs.Sessions.{Room, nearest_refusal, unfollowed, Says, call_of}
+use Rattle.console.specs.Lines.{line}
+use Rattle.console.specs.Sessions.{call_of}
+use Rattle.search_console.specs.Lines.{search_lines}
+use Rattle.search_console.specs.Sessions.{Room, nearest_refusal, unfollowed, Says}
 
 -- a granted search after the history h: the promise is kept of its answer and its hits, over the patches and pivots that h holds. What the
 -- metrics are asked is not followed

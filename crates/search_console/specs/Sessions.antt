@@ -16,28 +16,9 @@ use Rattle.engine.specs.declared.records.Answer.{Answer}
 use Rattle.engine.specs.declared.records.Neighbor.{Neighbor}
 use Rattle.search.specs.Refusals.{handed, search_refusal, refused, Granted}
 use Rattle.search.specs.Promised.{question, Searched}
-use Rattle.search_console.specs.Lines.{line, search_lines}
-
--- the call that a command asks for
-abbrev pub call_of : Instruction → Call
-call_of (insert a rows) = inserting a rows
-call_of (remove a) = removing a
-call_of (add_pivot c a) = adding c a
-call_of (remove_pivot c p) = freeing c p
-call_of (nearest g ws k r b rows) = searching
-
--- 0, or the number of the refusal
-abbrev pub code : Option Refusal → ℕ
-code None = 0
-code (Some e) = number e
-
-abbrev pub code_of : Result (Unit {0}) Refusal → ℕ
-code_of (Ok x) = 0
-code_of (Err e) = number e
-
--- what an index and its store hold
-abbrev pub written : Counts → List ℕ → Written
-written k b = record { counts = k; bytes = b }
+use Rattle.console.specs.Lines.{line}
+use Rattle.console.specs.Sessions.{call_of, code}
+use Rattle.search_console.specs.Lines.{search_lines}
 
 -- how long the lists are that a run lends to its searches
 pub record Room : Type 0 where
@@ -53,11 +34,6 @@ abbrev pub nearest_refusal : List Model → Room → Written → (aggregate : �
 nearest_refusal ms room w g ws k rows =
     cond (nat_lt 2 g) (Some UnknownAggregate)
     (search_refusal ms w.counts w.bytes k (handed (length rows) (length ws) room.hits room.candidates room.uppers))
-
--- the aggregate of a number, or its refusal
-abbrev pub Chooses : (g : ℕ) → Result Choice Refusal → Type 0
-Chooses g (Ok c) = choice_number c ≡ g
-Chooses g (Err e) = (2 < g) × (e ≡ UnknownAggregate)
 
 -- a session does not follow what the metrics are asked
 abbrev pub unfollowed : Asked

@@ -4,14 +4,15 @@
 ghost use Rattle.std.specs.Prelude.{◌≡◌, ℕ, List, ◌++◌, length, IfOk, string_bytes, OnOk};
 ghost use Rattle.patch.specs.Patches.{few};
 ghost use Rattle.search_console.specs.Promises.{Promised};
-ghost use Rattle.search_console.specs.Sessions.{Turn, Session, written, room_of};
+ghost use Rattle.console.specs.Sessions.{written};
+ghost use Rattle.search_console.specs.Sessions.{Turn, Session, room_of};
 
 use command::Reader;
 use command::format::Format;
+use console::print_line;
 use engine::records::{Candidate, Neighbor};
 use index::pivot_index::PivotIndex;
 use metric::channels::ChannelSet;
-use print::print_line;
 use queue::rank::Upper;
 use serve::serve;
 use std::fmt;
@@ -70,9 +71,6 @@ pub fn run<S: ChannelSet>(
     ensures promised { OnOk result (Promised (S.models index.old.set) format (room_of (length hits.old) (length candidates.old) (length uppers.old)) (written index.old.counts store.old) (written index.new.counts store.new) input.now (string_bytes out.old) (string_bytes out.new)) }
 {
     let mut reader = Reader::new(format, input);
-    let mut more = true;
-    while more {
-        more = turn(index, store, &mut reader, hits, candidates, uppers, out)?;
-    }
+    while turn(index, store, &mut reader, hits, candidates, uppers, out)? {}
     Ok(())
 }

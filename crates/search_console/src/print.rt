@@ -1,32 +1,18 @@
 //! The lines that answer commands.
 ghost use Rattle.std.specs.Prelude.{◌≡◌, ◌≤◌, ◌++◌, length, take, string_bytes, OnOk};
 ghost use Rattle.search.specs.Refusals.{Granted};
-ghost use Rattle.search_console.specs.Lines.{line, flag as flag_of, summary, hit_line, hit_lines, search_lines};
+ghost use Rattle.search_console.specs.Lines.{summary, hit_line, hit_lines, search_lines};
 
+use console::print_line;
 use engine::records::{Answer, Neighbor};
 use refusal::Refusal;
 use std::fmt;
-
-// Prints a letter and a number.
-pub(crate) fn print_line(out: &mut String, letter: &str, number: u8) -> fmt::Result
-    ensures { OnOk result (string_bytes out.new ≡ string_bytes out.old ++ line letter.now number) }
-{
-    write!(out, "{letter} {number}\n")?;
-    Ok(())
-}
-
-// 1 for a search that has finished, 0 for one that its budget stopped.
-fn flag(complete: bool) -> u8
-    ensures { result ≡ flag_of complete }
-{
-    if complete { 1 } else { 0 }
-}
 
 // Prints the first line of a granted search.
 fn print_summary(out: &mut String, answer: Answer) -> fmt::Result
     ensures { OnOk result (string_bytes out.new ≡ string_bytes out.old ++ summary answer) }
 {
-    let finished = flag(answer.complete);
+    let finished = u8::from(answer.complete);
     write!(
         out,
         "C 0 {finished} {} {} {}\n",

@@ -3,38 +3,20 @@ ghost use Rattle.std.specs.Prelude.{◌≡◌, ℕ, ◌≤◌, List, ◌++◌, l
 ghost use Rattle.command.specs.Commands.{meant};
 ghost use Rattle.patch.specs.Patches.{few};
 ghost use Rattle.search.specs.Refusals.{Granted};
-ghost use Rattle.search_console.specs.Sessions.{Chooses, Replies, Serves, written, room_of, code_of};
+ghost use Rattle.console.specs.Sessions.{written};
+ghost use Rattle.search_console.specs.Sessions.{Replies, Serves, room_of};
 
-use crate::print::{print_line, print_reply};
+use crate::print::print_reply;
 use aggregate::Choice;
 use command::Command;
+use console::print_line;
 use engine::records::{Answer, Candidate, Neighbor};
 use index::pivot_index::PivotIndex;
 use metric::channels::ChannelSet;
 use queue::rank::Upper;
-use refusal::Refusal;
+use refusal::{Refusal, code};
 use search::{Query, nearest};
 use std::fmt;
-
-// The number that a call answers: 0, or its refusal's.
-fn code(r: Result<(), Refusal>) -> u8
-    ensures { result ≡ code_of r }
-{
-    match r {
-        Ok(()) => 0,
-        Err(refusal) => refusal.number(),
-    }
-}
-
-// The aggregate of a number; refused above 2.
-fn choose(number: u8) -> Result<Choice, Refusal>
-    ensures { Chooses number result }
-{
-    match Choice::from_number(number) {
-        Some(choice) => Ok(choice),
-        None => Err(Refusal::UnknownAggregate),
-    }
-}
 
 // Searches as a command asks, its aggregate given by number.
 fn find<'a, S: ChannelSet>(
@@ -58,7 +40,7 @@ fn find<'a, S: ChannelSet>(
     let query = Query {
         rows,
         weights,
-        aggregate: choose(aggregate)?,
+        aggregate: Choice::try_from(aggregate)?,
         k,
         radius,
     };
@@ -79,16 +61,6 @@ pub(crate) fn serve<S: ChannelSet>(
     ensures same { S.models index.new.set ≡ S.models index.old.set }
 {
     match command {
-        Command::Insert { accession, rows } => {
-            print_line(out, "L", code(index.insert(store, accession, rows)))
-        }
-        Command::Remove { accession } => print_line(out, "U", code(index.remove(store, accession))),
-        Command::AddPivot { channel, accession } => {
-            print_line(out, "P", code(index.add_pivot(store, channel, accession)))
-        }
-        Command::RemovePivot { channel, pivot } => {
-            print_line(out, "R", code(index.remove_pivot(store, channel, pivot)))
-        }
         Command::Nearest {
             aggregate,
             weights,
@@ -101,6 +73,10 @@ pub(crate) fn serve<S: ChannelSet>(
                 index, store, aggregate, weights, k, radius, budget, rows, hits, candidates, uppers,
             );
             print_reply(out, reply, hits)
+        }
+        change => {
+            let (letter, outcome) = console::serve(index, store, change);
+            print_line(out, letter, code(outcome))
         }
     }
 }

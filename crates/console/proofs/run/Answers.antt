@@ -1,34 +1,35 @@
-use Rattle.std.proofs.Common.{ℕ, List, [], ◌++◌, string_bytes, sym, refl, ap, ◌∙◌, append_assoc, append-nil}
-use Rattle.std.proofs.lemmas.Result.{err_from_is_err_and}
+use Rattle.std.proofs.Common.{ℕ, List, ◌++◌, true, false, string_bytes, ap, ◌∙◌, subst, append_assoc}
 use Rattle.patch.specs.Patches.{few}
-use Rattle.console.proofs.Running.{begun, go_on, shorter, come}
+use Rattle.command.specs.declared.format.Format.{Format}
+use Rattle.console.specs.Sessions.{Session, written}
+use Rattle.console.proofs.Running.{one_more, come, shorter, turned}
 use Rattle.console.proofs.run.Goals as goal
 
-pub loop-more-init : goal.loop-more-init
-loop-more-init g c = (refl, refl, ([], begun _ _ _ _ _ c.new-reader.ensures.1, sym (append-nil (string_bytes c.args.out.now))))
+pub loop-smaller : goal.loop-smaller
+loop-smaller g c =
+    let i = c.loop.invariant in
+    let t = c.in_ok-turn.ensures.turn in
+    shorter _ _ _ _ _ _ _ _ _ _ i.2.1 (turned _ _ _ _ _ _ _ _ _ _ true (ap few i.0) i.1 c.if-branch.true t.1)
 
-pub loop-more-preserved : goal.loop-more-preserved
-loop-more-preserved g c =
-    let i = c.loop-more.invariant in
-    let t = c.in_ok-more.ensures.turn in (
+pub loop-preserved : goal.loop-preserved
+loop-preserved g c =
+    let i = c.loop.invariant in
+    let t = c.in_ok-turn.ensures.turn in (
       c.turn.ensures.same ∙ i.0,
       c.turn.ensures.format ∙ i.1,
       (
         i.2.0 ++ t.0,
-        go_on _ _ _ _ _ _ _ _ _ _ _ _ _ _ c.loop-more-test.true (ap few i.0) i.1 i.2.1 t.1,
+        one_more _ _ _ _ _ _ _ _ _ _ i.2.1 (turned _ _ _ _ _ _ _ _ _ _ true (ap few i.0) i.1 c.if-branch.true t.1),
         t.2 ∙ ap (λ (l : List ℕ). l ++ t.0) i.2.2 ∙ append_assoc (string_bytes c.args.out.now) i.2.0 t.0,
       ),
     )
 
-pub loop-more-smaller : goal.loop-more-smaller
-loop-more-smaller g c = shorter _ _ _ _ _ _ _ _ _ c.loop-more-test.true c.in_ok-more.ensures.turn.1
-
-pub returns : goal.returns
-returns g c =
-    let i = c.loop-more.invariant in
-    record { same = i.0; session = (i.2.0, come _ _ _ _ _ _ _ _ _ c.loop-more-test.false c.new-reader.ensures.0 i.2.1, i.2.2) }
-
-pub returns-in_err-more : goal.returns-in_err-more
-returns-in_err-more g c =
-    let p = err_from_is_err_and c.from_residual.result c.from_residual.ensures.1 in
-    record { same = c.turn.ensures.same ∙ c.loop-more.invariant.0; session = rw p.1 tt }
+pub returns-clause-session : goal.returns-clause-session
+returns-clause-session g c =
+    let i = c.loop.invariant in
+    let t = c.in_ok-turn.ensures.turn in (
+      i.2.0 ++ t.0,
+      subst (λ (f : Format). Session (few (g.S.ChannelSet.models c.args.index.now.set)) f (written c.args.index.now.counts c.args.store.now) c.args.input.now (i.2.0 ++ t.0) (written c.turn.new.index.counts c.turn.new.store)) c.new-reader.ensures.0
+      (come _ _ _ _ _ _ _ _ _ _ i.2.1 (turned _ _ _ _ _ _ _ _ _ _ false (ap few i.0) i.1 c.if-branch.false t.1)),
+      t.2 ∙ ap (λ (l : List ℕ). l ++ t.0) i.2.2 ∙ append_assoc (string_bytes c.args.out.now) i.2.0 t.0,
+    )

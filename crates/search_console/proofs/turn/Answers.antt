@@ -2,7 +2,7 @@ use Rattle.std.proofs.Common.{ℕ, [], ◌++◌, Ok, string_bytes, codes, Option
 use Rattle.refusal.specs.Refusals.{number}
 use Rattle.command.specs.declared.Command.{Command}
 use Rattle.command.specs.Commands.{meant, Next}
-use Rattle.search_console.specs.Lines.{line}
+use Rattle.console.specs.Lines.{line}
 use Rattle.search_console.specs.Sessions.{unread}
 use Rattle.search_console.proofs.Running.{ended}
 use Rattle.search_console.proofs.turn.Goals as goal
