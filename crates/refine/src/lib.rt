@@ -28,18 +28,14 @@ pub fn examples_hold() -> u8
 }
 
 /// The premises of the theorems can be met.
-pub fn premises_met() -> u8
+pub fn premises_met()
     ensures { PremisesMet }
-{
-    0
-}
+{}
 
 /// The finished list is the k nearest within the radius, nearest first.
-pub fn finished_nearest() -> u8
+pub fn finished_nearest()
     ensures { FinishedNearest Patch ℕ }
-{
-    0
-}
+{}
 
 fn steps_enough(patches: u16, channels: u8) -> u32
     ensures { result ≡ enough_steps patches channels }
@@ -58,101 +54,73 @@ pub fn runs_end(patches: u16, channels: u8) -> u32
 }
 
 /// Every plan that settles the finished list counts at least the need.
-pub fn need_is_least() -> u8
+pub fn need_is_least()
     ensures { NeedIsLeast Patch ℕ }
-{
-    0
-}
+{}
 
 /// A patch that is not admitted is in neither the finished list nor the need.
-pub fn unadmitted_idle() -> u8
+pub fn unadmitted_idle()
     ensures { UnadmittedIdle Patch ℕ }
-{
-    0
-}
+{}
 
 /// Two families with the same identifiers and distances: the shorter list begins the longer.
-pub fn bounds_only_delay() -> u8
+pub fn bounds_only_delay()
     ensures { BoundsOnlyDelay Patch ℕ }
-{
-    0
-}
+{}
 
 /// Neither the order of the patches nor that of the candidates changes the answer.
-pub fn order_is_free() -> u8
+pub fn order_is_free()
     ensures patches { OrderIsFree Patch ℕ }
     ensures candidates { LiveOrderIsFree Patch ℕ }
-{
-    0
-}
+{}
 
 /// The k-th least number is the one that counts single out.
-pub fn kth_by_counts() -> u8
+pub fn kth_by_counts()
     ensures { KthByCounts }
-{
-    0
-}
+{}
 
 /// A distance lies between the bounds that pivots give.
-pub fn between_bounds() -> u8
+pub fn between_bounds()
     ensures { BetweenBounds }
-{
-    0
-}
+{}
 
 /// Each place in a channel order belongs to exactly one channel, and to measure it changes one entry.
-pub fn one_place() -> u8
+pub fn one_place()
     ensures place { OnePlace }
     ensures entry { OneEntry }
-{
-    0
-}
+{}
 
 /// Chains from channels rise to the aggregated distance, and the upper bound is above it.
-pub fn channels_to_chains() -> u8
+pub fn channels_to_chains()
     ensures { ChannelsToChains Patch ℕ }
-{
-    0
-}
+{}
 
 /// The tables of a question to an index are lawful, and their finished list is the full scan.
-pub fn posed_refinable() -> u8
+pub fn posed_refinable()
     ensures { PosedRefinable }
-{
-    0
-}
+{}
 
 /// The full scan does not hang on the order of the patches, the pivots, or the metrics' greatest distances.
-pub fn scan_is_one() -> u8
+pub fn scan_is_one()
     ensures { ScanIsOne }
-{
-    0
-}
+{}
 
 /// Every search of an index ends at a beginning of the full scan.
-pub fn searches_end() -> u8
+pub fn searches_end()
     ensures { SearchesEnd }
-{
-    0
-}
+{}
 
 /// Of two searches for one question, the shorter answer begins the longer.
-pub fn searches_agree() -> u8
+pub fn searches_agree()
     ensures { SearchesAgree }
-{
-    0
-}
+{}
 
 /// A run over stand-ins, such as slots, is a run over the patches.
-pub fn stand_ins_run() -> u8
+pub fn stand_ins_run()
     ensures { StandInsRun ℕ Patch ℕ }
-{
-    0
-}
+{}
 
 /// What is measured stays measured.
-pub fn measured_stays() -> u8
+pub fn measured_stays()
     ensures { MeasuredStays Patch ℕ }
-{
-    0
-}
+{}

@@ -21,14 +21,6 @@ serves : (ms : List Model) (room : Room) (w w' : Written) (m : Command) (i : Ins
 serves ms room w w' m i is k b said s =
     subst (λ (j : Instruction). Serves ms room w w' j said) (sym is) (record { says = s; leaves = λ t. record { counts = k t; bytes = b t } })
 
--- a command that is no search was served and answered by a letter and a number, of which a line was printed
-pub changed : (ms : List Model) (room : Room) (w w' : Written) (i : Instruction) (l : List ℕ) (n : ℕ) → Served i → Answers ms w w' i l n → Serves ms room w w' i (line l n)
-changed ms room w w' (insert a rows) l n h s = record { says = λ j. line (s.says j) (s.number j); leaves = s.leaves }
-changed ms room w w' (remove a) l n h s = record { says = λ j. line (s.says j) (s.number j); leaves = s.leaves }
-changed ms room w w' (add_pivot c a) l n h s = record { says = λ j. line (s.says j) (s.number j); leaves = s.leaves }
-changed ms room w w' (remove_pivot c p) l n h s = record { says = λ j. line (s.says j) (s.number j); leaves = s.leaves }
-changed ms room w w' (nearest g ws k r b rows) l n h s = absurd h
-
 -- a search, of which the reply was printed
 pub searched : (ms : List Model) (room : Room) (w w' : Written) (m : Command) (g : ℕ) (ws : List ℕ) (k radius budget : ℕ) (rows : List ℕ)
     → meant m ≡ nearest g ws k radius budget rows → w'.counts ≡ w.counts → w'.bytes ≡ w.bytes
