@@ -5,6 +5,7 @@ mod bytes;
 mod checks;
 pub mod counts;
 pub mod laws;
+pub mod inventory;
 pub mod layout;
 pub mod pivot_index;
 mod steps;
