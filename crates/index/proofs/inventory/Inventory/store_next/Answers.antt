@@ -1,4 +1,4 @@
-use Rattle.std.proofs.Common.{length, ap, ◌∙◌}
+use Rattle.std.proofs.Common.{ℕ, length, ap, ◌∙◌, arith}
 use Rattle.big_endian.specs.Numbers.{be16}
 use Rattle.patch.specs.Patches.{few}
 use Rattle.index.specs.declared.layout.Layout.{Layout}
@@ -24,10 +24,11 @@ returns g c =
       kept = c.store_patch.ensures.kept;
       bytes =
           c.store_patch.ensures.bytes
-          ∙ ap (each (length ms) (store_channel ms l k k.held rows)) c.put_patch.ensures
+          ∙ ap (each (length ms) (store_channel ms l k c.from-slot.result rows)) c.put_patch.ensures
+          ∙ ap (λ (n : ℕ). each (length ms) (store_channel ms l k n rows) (put (row_at l n) rows (put (number_at n) (be16 a) b))) c.from-slot.ensures
           ∙ ap (λ (z : Layout). each (length ms) (store_channel ms z k k.held rows) (put (row_at z k.held) rows (put (number_at k.held) (be16 a) b))) c.requires.ready.layout;
       asks =
           adds_among (s.asked c.args.set.now) (s.asked c.store_patch.new.set) (InsertAsks ms k b₂ rows) (InsertAsks ms k b rows)
-          (insert_asks_same ms k b₂ b rows (patch_leaves ms k l b c.requires.ready k.held a rows b₂ c.requires.free c.requires.rows c.put_patch.ensures))
+          (insert_asks_same ms k b₂ b rows (patch_leaves ms k l b c.requires.ready c.from-slot.result a rows b₂ (omega (arith, c.from-slot.ensures, c.requires.free)) c.requires.rows c.put_patch.ensures))
           c.store_patch.ensures.asks;
     }
