@@ -22,9 +22,6 @@ pub row_cut : (ms : List Model) (l : Layout) (c start w : ℕ) (rows : List ℕ)
 row_cut ms l c start w rows u =
     cut start w rows ∙ ap (λ (n : ℕ). part start n rows) u.wide ∙ ap (λ (n : ℕ). part n (at (few ms) c).width rows) u.begins
 
-pub row_long : (ms : List Model) (l : Layout) (c start w : ℕ) (rows : List ℕ) → InUse ms l c start w → length rows ≡ l.row → length (row (few ms) c rows) ≡ (at (few ms) c).width
-row_long ms l c start w rows u e = length_part (offset (few ms) c) (at (few ms) c).width rows (omega (arith, u.inside, u.begins, u.wide))
-
 -- the row of a pivot as code cuts it, and that of a slot
 pub pivot_cut : (ms : List Model) (l : Layout) (c start w p from : ℕ) (b : List ℕ) → InUse ms l c start w → from ≡ pivot_at l start w p → take ((from + w) - from) (drop from b) ≡ pivot_row (few ms) l c p b
 pivot_cut ms l c start w p from b u e =
@@ -44,9 +41,6 @@ adds_pair before mid after P c a b h e p k x y t =
 -- more pairs are asked, which are among P
 pub adds_more : (before mid after P : Asked) → AddsOnly before mid P → AddsOnly mid after P → AddsOnly before after P
 adds_more before mid after P h e k x y t = ⊎_elim (λ u. h k x y u) inr (e k x y t)
-
-pub adds_none : (before P : Asked) → AddsOnly before before P
-adds_none before P k x y t = inl t
 
 -- a wider P
 pub adds_among : (before after P Q : Asked) → ((c : ℕ) (x y : List ℕ) → P c x y → Q c x y) → AddsOnly before after P → AddsOnly before after Q

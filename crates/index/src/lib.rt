@@ -4,8 +4,8 @@
 mod bytes;
 mod checks;
 pub mod counts;
-pub mod laws;
 pub mod inventory;
+pub mod laws;
 pub mod layout;
 pub mod pivot_index;
 mod steps;

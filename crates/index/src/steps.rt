@@ -13,14 +13,6 @@ use crate::inventory::Inventory;
 use crate::layout::{RowSpan, row_span};
 use metric::channels::ChannelSet;
 
-// Whether a slot has the accession number.
-fn has_number(store: &[u8], slot: u16, accession: u16) -> bool
-    requires { 2 * slot + 2 ≤ length store.now }
-    ensures { result ≡ (get16 (number_at slot) store.now == accession) }
-{
-    get_u16(store, 2 * usize::from(slot)) == accession
-}
-
 // One pivot more.
 pub fn grow(r: &mut ChannelRecord)
     requires { r.old.pivots < 8 }
@@ -45,12 +37,7 @@ impl Inventory {
         ensures is { result ≡ first_from store.now accession self.now.counts.held 0 }
         ensures below { IfSome result (λ s. s < self.now.counts.held) }
     {
-        for i in 0..self.counts.held {
-            if has_number(store, i, accession) {
-                return Some(i);
-            }
-        }
-        None
+        (0..self.counts.held).find(|slot| get_u16(store, 2 * usize::from(*slot)) == accession)
     }
 
     // Stores the distances of a patch's row in channel c to every pivot there.

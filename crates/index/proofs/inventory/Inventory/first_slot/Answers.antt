@@ -1,20 +1,17 @@
-use Rattle.std.proofs.Common.{sym, ◌∙◌, arith}
-use Rattle.index.proofs.Eaches.{first_next, first_here, first_none}
+use Rattle.std.proofs.Common.{ℕ, ◌==◌, sym, ◌∙◌, refl, arith, rules}
+use Rattle.std.proofs.lemmas.Iterator.{YieldsList-from_range}
+use Rattle.std.proofs.lemmas.Iterator.Search.{find_from_yields_List}
+use Rattle.std.proofs.lemmas.Iterator.Adapters.{option_map_id}
+use Rattle.index.specs.Bytes.{get16}
+use Rattle.index.specs.Layouts.{number_at}
+use Rattle.index.proofs.Eaches.{first_find}
 use Rattle.index.proofs.inventory.Inventory.first_slot.Goals as goal
 
-pub loop-i-preserved : goal.loop-i-preserved
-loop-i-preserved c =
-    first_next c.args.store.now c.args.accession c.args.self.now.counts.held c.loop-i.i c.loop-i-test.true (sym c.has_number.ensures ∙ c.if-has_number.false)
-    ∙ c.loop-i.invariant
-
-pub returns-then-has_number : goal.returns-then-has_number
-returns-then-has_number c = record {
-  is = first_here c.args.store.now c.args.accession c.args.self.now.counts.held c.loop-i.i c.loop-i-test.true (sym c.has_number.ensures ∙ c.if-has_number.true) ∙ c.loop-i.invariant;
-  below = c.loop-i-test.true;
-}
-
-pub returns : goal.returns
-returns c = record {
-  is = first_none c.args.store.now c.args.accession c.args.self.now.counts.held c.loop-i.i (omega arith) ∙ c.loop-i.invariant;
-  below = tt;
-}
+pub returns-clause-is : goal.returns-clause-is
+returns-clause-is c =
+    let b = c.args.store.now in
+    let a = c.args.accession in
+    let n = c.args.self.now.counts.held in
+    sym (option_map_id c.find.result)
+    ∙ find_from_yields_List (λ (s : ℕ). get16 (number_at s) b == a) _ _ c.find.result c.find.ensures.ran (YieldsList-from_range 0 n n refl (omega arith)) (λ x v q k. search rules)
+    ∙ first_find b a n 0

@@ -42,10 +42,16 @@ loop-p-preserved g c =
       ap length wrote ∙ length_put c.distance_at-to.result (be16 c.distance-d.result) b fits ∙ c.loop-p.invariant.1,
       stored ms (s.models c.loop-p.set) same i c.requires.channel l c.args.slot p c.distance_at-to.result c.distance-d.result x _ y b c.put_u16.new.store
           c.distance_at-to.ensures.at c.distance-d.ensures.value ex ey wrote
-      ∙ ap (f p) c.loop-p.invariant.2 ∙ sym (each_more p f b₀),
+          ∙ ap (f p) c.loop-p.invariant.2 ∙ sym (each_more p f b₀),
       ap (take l.distances) wrote ∙ take_put l.distances c.distance_at-to.result (be16 c.distance-d.result) b c.distance_at-to.ensures.begins fits ∙ c.loop-p.invariant.3,
       adds_pair (s.asked c.args.set.now) (s.asked c.loop-p.set) (s.asked c.distance-d.new.self) (InsertAsks (few ms) c.args.self.now.counts b₀ rows) i _ y
-          c.loop-p.invariant.4 c.distance-d.ensures.adds
-          (c.requires.channel, ex, (p, omega (arith, c.loop-p-test.true, c.pivots_in-p-end.ensures),
-            ey ∙ pivot_same (few ms) c.args.self.now.counts l b b₀ i p c.requires.ready c.requires.channel lt c.loop-p.invariant.3 ∙ ap (λ (z : Layout). pivot_row (few ms) z i p b₀) c.requires.ready.layout)),
+          c.loop-p.invariant.4 c.distance-d.ensures.adds (
+            c.requires.channel,
+            ex,
+            (
+              p,
+              omega (arith, c.loop-p-test.true, c.pivots_in-p-end.ensures),
+              ey ∙ pivot_same (few ms) c.args.self.now.counts l b b₀ i p c.requires.ready c.requires.channel lt c.loop-p.invariant.3 ∙ ap (λ (z : Layout). pivot_row (few ms) z i p b₀) c.requires.ready.layout,
+            ),
+          ),
     )

@@ -37,10 +37,12 @@ loop-slot-preserved g c =
       ap length wrote ∙ length_put c.distance_at-to.result (be16 c.distance-d.result) b fits ∙ c.loop-slot.invariant.1,
       stored ms (s.models c.loop-slot.set) same i c.requires.channel l j p c.distance_at-to.result c.distance-d.result (slot_row (few ms) l i j b) _ y b c.put_u16.new.store
           c.distance_at-to.ensures.at c.distance-d.ensures.value ex ey wrote
-      ∙ ap (f j) c.loop-slot.invariant.2 ∙ sym (each_more j f b₀),
+          ∙ ap (f j) c.loop-slot.invariant.2 ∙ sym (each_more j f b₀),
       ap (take l.distances) wrote ∙ take_put l.distances c.distance_at-to.result (be16 c.distance-d.result) b c.distance_at-to.ensures.begins fits ∙ below,
       adds_pair (s.asked c.args.set.now) (s.asked c.loop-slot.set) (s.asked c.distance-d.new.self) (OwnAsks (few ms) l k.held b₀ i p) i _ y
-          c.loop-slot.invariant.4 c.distance-d.ensures.adds
-          (refl, ey ∙ pivot_same (few ms) k l b b₀ i p c.requires.ready c.requires.channel c.requires.pivot below,
-            (j, lt, ex ∙ slot_same (few ms) k l b b₀ i j c.requires.ready c.requires.channel (omega (arith, lt, c.requires.ready.held)) below)),
+          c.loop-slot.invariant.4 c.distance-d.ensures.adds (
+            refl,
+            ey ∙ pivot_same (few ms) k l b b₀ i p c.requires.ready c.requires.channel c.requires.pivot below,
+            (j, lt, ex ∙ slot_same (few ms) k l b b₀ i j c.requires.ready c.requires.channel (omega (arith, lt, c.requires.ready.held)) below),
+          ),
     )
