@@ -15,7 +15,7 @@ use Rattle.index.specs.Image.{counted}
 use Rattle.index.specs.Layouts.{layout_of, pivot_at}
 use Rattle.index.specs.Limits.{pivots_in}
 use Rattle.index.specs.Steps.{slot_row, pivot_row, store_own}
-use Rattle.index.proofs.PutParts.{each_keeps}
+use Rattle.index.proofs.Puts.{each_keeps}
 use Rattle.index.proofs.Fields.{Field, number, rows, pivot, distance, Ne, Differs, pivot_differs, Valid, view, slot_row_is}
 use Rattle.index.proofs.Turning.{Job, Turned, Became, turned_over, turned_none, turned_put, turned_idle, reads_same, reads_new}
 use Rattle.index.proofs.Shown.{SameEntry, same_list, push_other, shown, rows_held, pivot_held, distance_held, distance_unheld, pivot_same, distance_same}

@@ -10,7 +10,8 @@ use Rattle.patch.proofs.Widths.{offset_more, row_ends}
 use Rattle.index.specs.Bytes.{part}
 use Rattle.index.specs.Layouts.{layout_of, number_at, row_at, pivot_at, distance_at}
 use Rattle.index.specs.Steps.{slot_row}
-use Rattle.index.proofs.PutParts.{next_le, Apart, part_part}
+use Rattle.index.proofs.Puts.{Apart, part_part}
+use Rattle.index.proofs.Spans.{next_le}
 
 pub data Field : Type 0 where
   number : (slot : ℕ) → Field

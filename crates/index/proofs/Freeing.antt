@@ -11,7 +11,7 @@ use Rattle.index.specs.Image.{counted}
 use Rattle.index.specs.Layouts.{layout_of, pivot_at}
 use Rattle.index.specs.Limits.{pivots_in}
 use Rattle.index.specs.Steps.{moved, free_distance}
-use Rattle.index.proofs.PutParts.{each_keeps}
+use Rattle.index.proofs.Puts.{each_keeps}
 use Rattle.index.proofs.Fields.{Field, number, rows, pivot, distance, Ne, Differs, pivot_differs, Valid, view}
 use Rattle.index.proofs.Turning.{Job, Turned, Became, turned_over, turned_none, turned_move_field, turned_idle}
 use Rattle.index.proofs.Shown.{SameEntry, same_list, closed_length, closed_other, closed_moved, shown, pivot_free, distance_unheld, distance_unset, pivot_same, distance_same}

@@ -15,7 +15,7 @@ use Rattle.index.specs.History.{Call, Written, call, worked, held, pivots, AllFi
 use Rattle.index.specs.Image.{Shows, Kept}
 use Rattle.index.specs.Layouts.{layout_of}
 use Rattle.index.specs.Limits.{no_counts}
-use Rattle.index.proofs.PutParts.{zeros, length_put, drop_put, part_put_in, part_zeros}
+use Rattle.index.proofs.Puts.{zeros, length_put, drop_put, part_put_in, part_zeros}
 use Rattle.index.proofs.Fields.{Field, number, rows, pivot, distance, start, long, Valid, view, field_ends}
 use Rattle.index.proofs.Shown.{shown, number_free, rows_free, pivot_free, distance_unheld}
 use Rattle.index.proofs.Counting.{counted_none}

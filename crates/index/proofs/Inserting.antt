@@ -13,7 +13,7 @@ use Rattle.index.specs.Image.{counted}
 use Rattle.index.specs.Layouts.{layout_of}
 use Rattle.index.specs.Limits.{pivots_in}
 use Rattle.index.specs.Steps.{pivot_row, store_distance, store_channel}
-use Rattle.index.proofs.PutParts.{each_keeps}
+use Rattle.index.proofs.Puts.{each_keeps}
 use Rattle.index.proofs.Fields.{Field, number, rows, pivot, distance, Ne, Differs, slot_of, slot_differs, start, Valid, view}
 use Rattle.index.proofs.Turning.{Job, Turned, Became, turned_over, turned_none, turned_put, turned_idle, turned_at, reads_same}
 use Rattle.index.proofs.Shown.{push_other, shown, number_held, rows_held, pivot_held, distance_held, distance_unset, number_same, rows_same, distance_same}

@@ -3,9 +3,6 @@ pub mod Spans
 pub mod Eaches
 pub mod Stores
 pub mod Workings
-pub mod Records
-pub mod Nexts
-mod PutParts
 mod Fields
 mod Turning
 mod Shown

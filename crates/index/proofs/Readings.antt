@@ -18,7 +18,7 @@ use Rattle.index.specs.Laws.{HistoryShows, HeldAlike, SearchKeeps}
 use Rattle.index.specs.Layouts.{layout_of, number_at, row_at, distance_at}
 use Rattle.index.specs.Limits.{no_record, pivots_in}
 use Rattle.index.specs.Steps.{slot_row, pivot_row}
-use Rattle.index.proofs.PutParts.{zeros}
+use Rattle.index.proofs.Puts.{zeros}
 use Rattle.index.proofs.Fields.{Field, number, rows, pivot, distance, long, Valid, view, slot_row_is}
 use Rattle.index.proofs.Shown.{shown, number_held, number_free, rows_held, rows_free, pivot_held, pivot_free, distance_held, distance_unheld, distance_unset}
 use Rattle.index.proofs.Counting.{pivots_counted}
@@ -117,20 +117,9 @@ module _ (ms : List Model) (cap : ℕ) (ps : List Patch) (pv : ℕ → List (Lis
         (le-ltb (length b) (stated ms k) (subst (λ (x : ℕ). (layout_of ms x).size ≤ length b) (sym shows_capacity) shows_size))
         ∙ shows_place a
 
--- the store is as long as it was
-pub holds_length : (ms : List Model) (cap : ℕ) (k : Counts) (b b₀ : List ℕ) (h : List Call) → Holds ms k b cap b₀ h → length b₀ ≡ length b
-holds_length ms cap k b b₀ h hold = sym (holds_stands ms cap k b b₀ h hold).same_length
-
+-- no more channels than eight
 pub holds_channels : (ms : List Model) (cap : ℕ) (k : Counts) (b b₀ : List ℕ) (h : List Call) → Holds ms k b cap b₀ h → length ms ≤ 8
 holds_channels ms cap k b b₀ h hold = (holds_granted ms cap k b b₀ h hold).channels
-
-pub holds_slots : (ms : List Model) (cap : ℕ) (k : Counts) (b b₀ : List ℕ) (h : List Call) → Holds ms k b cap b₀ h → cap ≤ 4096
-holds_slots ms cap k b b₀ h hold = (holds_granted ms cap k b b₀ h hold).slots
-
--- a call adds itself to the history
-pub holds_next : (ms : List Model) (cap : ℕ) (k : Counts) (b b₀ : List ℕ) (h : List Call) (c : Call) → Fits c → Holds ms k b cap b₀ h
-    → Holds ms (call (few ms) c (record { counts = k; bytes = b })).counts (call (few ms) c (record { counts = k; bytes = b })).bytes cap b₀ (c ∷ h)
-holds_next ms cap k b b₀ h c fit hold = record { granted = hold.granted; fit = (fit, hold.fit); left = ap (call (few ms) c) hold.left }
 
 -- all that a search reads, where a history holds
 pub record Reads (ms : List Model) (cap : ℕ) (ps : List Patch) (pv : ℕ → List (List ℕ)) (k : Counts) (b : List ℕ) : Type 0 where

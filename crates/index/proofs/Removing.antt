@@ -9,7 +9,8 @@ use Rattle.index.specs.History.{no_patch, closed_up}
 use Rattle.index.specs.Image.{counted}
 use Rattle.index.specs.Layouts.{layout_of, number_at, row_at, distance_at}
 use Rattle.index.specs.Steps.{moved}
-use Rattle.index.proofs.PutParts.{Apart, next_le}
+use Rattle.index.proofs.Puts.{Apart}
+use Rattle.index.proofs.Spans.{next_le}
 use Rattle.index.proofs.Fields.{Field, number, rows, pivot, distance, Ne, Differs, slot_of, slot_differs, start, long, Valid, view, regions_apart, size_is}
 use Rattle.index.proofs.Turning.{Job, Turned, Became, turned_over, Fate, zeroed, taken, elsewhere, turned_none, turned_move, turned_move_field}
 use Rattle.index.proofs.Shown.{SameEntry, closed_length, closed_other, closed_moved, shown, number_free, rows_free, distance_unheld, number_same, rows_same, distance_same}

@@ -8,7 +8,7 @@ use Rattle.metric.specs.Channels.{at}
 use Rattle.patch.specs.Patches.{Patch, patch_width, row}
 use Rattle.index.specs.History.{no_patch, closed_up}
 use Rattle.index.specs.Image.{number_bytes, row_bytes, pivot_bytes, distance_bytes}
-use Rattle.index.proofs.PutParts.{zeros}
+use Rattle.index.proofs.Puts.{zeros}
 use Rattle.index.proofs.Fields.{Field, number, rows, pivot, distance, Ne}
 
 -- entry i of xs is entry j of ys, or neither is there

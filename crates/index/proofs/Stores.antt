@@ -22,25 +22,14 @@ pub row_cut : (ms : List Model) (l : Layout) (c start w : ℕ) (rows : List ℕ)
 row_cut ms l c start w rows u =
     cut start w rows ∙ ap (λ (n : ℕ). part start n rows) u.wide ∙ ap (λ (n : ℕ). part n (at (few ms) c).width rows) u.begins
 
-pub row_long : (ms : List Model) (l : Layout) (c start w : ℕ) (rows : List ℕ) → InUse ms l c start w → length rows ≡ l.row → length (row (few ms) c rows) ≡ (at (few ms) c).width
-row_long ms l c start w rows u e = length_part (offset (few ms) c) (at (few ms) c).width rows (omega (arith, u.inside, u.begins, u.wide))
+-- the row of a pivot as code cuts it, and that of a slot
+pub pivot_cut : (ms : List Model) (l : Layout) (c start w p from : ℕ) (b : List ℕ) → InUse ms l c start w → from ≡ pivot_at l start w p → take ((from + w) - from) (drop from b) ≡ pivot_row (few ms) l c p b
+pivot_cut ms l c start w p from b u e =
+    cut from w b ∙ ap (λ (n : ℕ). part n w b) (e ∙ ap (λ (n : ℕ). pivot_at l n w p) u.begins) ∙ ap (λ (n : ℕ). part (pivot_at l (offset (few ms) c) n p) n b) u.wide
 
--- where the row of a pivot begins
-pub pivot_begins : (ms : List Model) (l : Layout) (c start w p from : ℕ) → InUse ms l c start w → from ≡ pivot_at l start w p → from ≡ pivot_at l (offset (few ms) c) (at (few ms) c).width p
-pivot_begins ms l c start w p from u e =
-    e ∙ ap (λ (n : ℕ). pivot_at l n w p) u.begins ∙ ap (λ (n : ℕ). pivot_at l (offset (few ms) c) n p) u.wide
-
--- the row of a pivot that ends below `distances`, where the stores agree there
-pub pivot_same : (ms : List Model) (l : Layout) (c p n from : ℕ) (b b₀ : List ℕ) → n ≡ (at ms c).width → from ≡ pivot_at l (offset ms c) (at ms c).width p → from + n ≤ l.distances
-    → take l.distances b ≡ take l.distances b₀ → part from n b ≡ pivot_row ms l c p b₀
-pivot_same ms l c p n from b b₀ en ef h below =
-    part_same l.distances from n b b₀ h below ∙ ap (λ (m : ℕ). part m n b₀) ef ∙ ap (λ (m : ℕ). part (pivot_at l (offset ms c) (at ms c).width p) m b₀) en
-
--- the same of the row of a slot
-pub own_row_same : (ms : List Model) (l : Layout) (c slot n own : ℕ) (b b₀ : List ℕ) → n ≡ (at ms c).width → own ≡ row_at l slot + offset ms c → own + n ≤ l.distances
-    → take l.distances b ≡ take l.distances b₀ → part own n b ≡ slot_row ms l c slot b₀
-own_row_same ms l c slot n own b b₀ en eo h below =
-    part_same l.distances own n b b₀ h below ∙ ap (λ (m : ℕ). part m n b₀) eo ∙ ap (λ (m : ℕ). part (row_at l slot + offset ms c) m b₀) en
+pub own_cut : (ms : List Model) (l : Layout) (c start w slot at_row : ℕ) (b : List ℕ) → InUse ms l c start w → at_row ≡ row_at l slot → take (((at_row + start) + w) - (at_row + start)) (drop (at_row + start) b) ≡ slot_row (few ms) l c slot b
+own_cut ms l c start w slot at_row b u e =
+    cut (at_row + start) w b ∙ ap (λ (n : ℕ). part (n + start) w b) e ∙ ap (λ (n : ℕ). part (row_at l slot + n) w b) u.begins ∙ ap (λ (n : ℕ). part (row_at l slot + offset (few ms) c) n b) u.wide
 
 -- one pair more is asked, which is among P
 pub adds_pair : (before mid after P : Asked) (c : ℕ) (a b : List ℕ) → AddsOnly before mid P → AddsAt mid after c a b → P c a b → AddsOnly before after P
@@ -52,9 +41,6 @@ adds_pair before mid after P c a b h e p k x y t =
 -- more pairs are asked, which are among P
 pub adds_more : (before mid after P : Asked) → AddsOnly before mid P → AddsOnly mid after P → AddsOnly before after P
 adds_more before mid after P h e k x y t = ⊎_elim (λ u. h k x y u) inr (e k x y t)
-
-pub adds_none : (before P : Asked) → AddsOnly before before P
-adds_none before P k x y t = inl t
 
 -- a wider P
 pub adds_among : (before after P Q : Asked) → ((c : ℕ) (x y : List ℕ) → P c x y → Q c x y) → AddsOnly before after P → AddsOnly before after Q
@@ -72,41 +58,13 @@ module _ (ms ms₁ : List Model) (same : ms₁ ≡ ms) (c : ℕ) (h : c < length
   pub model_in_use : at ms₁ c ≡ at (few ms) c
   model_in_use = ap (λ (l : List Model). at l c) same ∙ sym (few_at ms c h)
 
-  pub store_more : (l : Layout) (slot p from to : ℕ) (x : List ℕ) (b b₀ b₁ : List ℕ)
-      → length x ≡ (at (few ms) c).width
-      → from ≡ pivot_at l (offset (few ms) c) (at (few ms) c).width p
-      → to ≡ distance_at l slot c p
-      → b₁ ≡ put to (be16 ((at ms₁ c).dist x (part from (length x) b))) b
-      → b ≡ each p (store_distance (few ms) l slot c x) b₀
-      → b₁ ≡ each (p + 1) (store_distance (few ms) l slot c x) b₀
-  store_more l slot p from to x b b₀ b₁ long ef et wrote inv =
-      let f : ℕ → List ℕ → List ℕ = store_distance (few ms) l slot c x in
+  -- a distance is stored
+  pub stored : (l : Layout) (slot p to d : ℕ) (x x₁ y b b₁ : List ℕ) → to ≡ distance_at l slot c p → d ≡ (at ms₁ c).dist x₁ y → x₁ ≡ x → y ≡ pivot_row (few ms) l c p b → b₁ ≡ put to (be16 d) b
+      → b₁ ≡ store_distance (few ms) l slot c x p b
+  stored l slot p to d x x₁ y b b₁ et ed ex ey wrote =
       wrote
-      ∙ ap (λ (m : Model). put to (be16 (m.dist x (part from (length x) b))) b) model_in_use
-      ∙ ap (λ (n : ℕ). put to (be16 ((at (few ms) c).dist x (part from n b))) b) long
-      ∙ ap (λ (n : ℕ). put to (be16 ((at (few ms) c).dist x (part n (at (few ms) c).width b))) b) ef
-      ∙ ap (λ (n : ℕ). put n (be16 ((at (few ms) c).dist x (pivot_row (few ms) l c p b))) b) et
-      ∙ ap (f p) inv
-      ∙ sym (each_more p f b₀)
-
-  pub own_more : (l : Layout) (p slot w own from to : ℕ) (b b₀ b₁ : List ℕ)
-      → w ≡ (at (few ms) c).width
-      → own ≡ row_at l slot + offset (few ms) c
-      → from ≡ pivot_at l (offset (few ms) c) (at (few ms) c).width p
-      → to ≡ distance_at l slot c p
-      → b₁ ≡ put to (be16 ((at ms₁ c).dist (part own w b) (part from w b))) b
-      → b ≡ each slot (store_own (few ms) l c p) b₀
-      → b₁ ≡ each (slot + 1) (store_own (few ms) l c p) b₀
-  own_more l p slot w own from to b b₀ b₁ ew eo ef et wrote inv =
-      let f : ℕ → List ℕ → List ℕ = store_own (few ms) l c p in
-      wrote
-      ∙ ap (λ (m : Model). put to (be16 (m.dist (part own w b) (part from w b))) b) model_in_use
-      ∙ ap (λ (n : ℕ). put to (be16 ((at (few ms) c).dist (part own n b) (part from n b))) b) ew
-      ∙ ap (λ (n : ℕ). put to (be16 ((at (few ms) c).dist (part n (at (few ms) c).width b) (part from (at (few ms) c).width b))) b) eo
-      ∙ ap (λ (n : ℕ). put to (be16 ((at (few ms) c).dist (slot_row (few ms) l c slot b) (part n (at (few ms) c).width b))) b) ef
-      ∙ ap (λ (n : ℕ). put n (be16 ((at (few ms) c).dist (slot_row (few ms) l c slot b) (pivot_row (few ms) l c p b))) b) et
-      ∙ ap (f slot) inv
-      ∙ sym (each_more slot f b₀)
+      ∙ ap (λ (n : ℕ). put n (be16 d) b) et
+      ∙ ap (λ (n : ℕ). put (distance_at l slot c p) (be16 n) b) (ed ∙ ap (λ (m : Model). m.dist x₁ y) model_in_use ∙ ap (λ (r : List ℕ). (at (few ms) c).dist r y) ex ∙ ap ((at (few ms) c).dist x) ey)
 
 -- the set and the store have changed, but not what the set means, nor how long the store is
 pub ready_again : (ms ms₁ : List Model) (k : Counts) (l : Layout) (b b₁ : List ℕ) → ms₁ ≡ ms → length b₁ ≡ length b → Ready (few ms) k l b → Ready (few ms₁) k l b₁
@@ -127,6 +85,16 @@ pub pivot_ends : (ms : List Model) (k : Counts) (l : Layout) (b : List ℕ) (c p
 pivot_ends ms k l b c p r h lt =
     omega (arith, r.row, r.sound.distances, next_le p 8 (at ms c).width lt, row_ends ms c h)
 
+-- rows in stores that agree below `distances`
+pub pivot_same : (ms : List Model) (k : Counts) (l : Layout) (b b₀ : List ℕ) (c p : ℕ) → Ready ms k l b₀ → c < length ms → p < 8 → take l.distances b ≡ take l.distances b₀ → pivot_row ms l c p b ≡ pivot_row ms l c p b₀
+pivot_same ms k l b b₀ c p r h lt below = part_same l.distances _ _ b b₀ (pivot_ends ms k l b₀ c p r h lt) below
+
+pub slot_same : (ms : List Model) (k : Counts) (l : Layout) (b b₀ : List ℕ) (c slot : ℕ) → Ready ms k l b₀ → c < length ms → slot < k.capacity → take l.distances b ≡ take l.distances b₀ → slot_row ms l c slot b ≡ slot_row ms l c slot b₀
+slot_same ms k l b b₀ c slot r h lt below =
+    let s : slot < l.capacity = omega (arith, r.slots) in
+    let e : (row_at l slot + offset ms c) + (at ms c).width ≤ l.distances = omega (arith, r.row, r.sound.pivots, r.sound.distances, next_le slot l.capacity l.row s, row_ends ms c h) in
+    part_same l.distances _ _ b b₀ e below
+
 -- pairs asked of stores that agree below `distances`
 pub insert_asks_below : (ms ms₁ : List Model) (k : Counts) (l : Layout) (b b₀ rows : List ℕ) → ms₁ ≡ ms → Ready (few ms) k l b₀ → take l.distances b ≡ take l.distances b₀
     → (c : ℕ) (x y : List ℕ) → InsertAsks (few ms₁) k b rows c x y → InsertAsks (few ms) k b₀ rows c x y
@@ -134,6 +102,6 @@ insert_asks_below ms ms₁ k l b b₀ rows same r below c x y h =
     insert_asks_same (few ms) k b b₀ rows
     (λ j p lt q.
     let lt8 : p < 8 = omega (arith, r.eight j) in
-    let z : pivot_row (few ms) l j p b ≡ pivot_row (few ms) l j p b₀ = part_same l.distances _ _ b b₀ (pivot_ends (few ms) k l b₀ j p r lt lt8) below in
+    let z = pivot_same (few ms) k l b b₀ j p r lt lt8 below in
     subst (λ (m : Layout). pivot_row (few ms) m j p b ≡ pivot_row (few ms) m j p b₀) r.layout z)
     c x y (subst (λ (ls : List Model). InsertAsks (few ls) k b rows c x y) same h)

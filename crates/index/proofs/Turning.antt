@@ -5,7 +5,7 @@ use Rattle.metric.specs.Model.{Model}
 use Rattle.index.specs.Bytes.{put, part}
 use Rattle.index.specs.Layouts.{layout_of}
 use Rattle.index.specs.Steps.{moved}
-use Rattle.index.proofs.PutParts.{Apart, length_put, drop_put, part_put_other, part_put_same, length_moved, drop_moved, moved_zero, moved_taken, moved_other}
+use Rattle.index.proofs.Puts.{Apart, length_put, drop_put, part_put_other, part_put_same, length_moved, drop_moved, moved_zero, moved_taken, moved_other}
 use Rattle.index.proofs.Fields.{Field, Differs, cases_field, start, long, Valid, view, field_ends, apart}
 
 -- what a call does to a store: at which turn each field goes from `old` to `new`

@@ -50,8 +50,8 @@ module _ (ms : List Model) (k : Counts) (l : Layout) (b : List ℕ) (r : Ready m
       let o₂ : number_at slot + 2 ≤ P = omega arith in
       let z : pivot_row ms l c p b₂ ≡ pivot_row ms l c p b =
       ap (part P n) w
-      ∙ part_put_other (row_at l slot) P n rows (put (number_at slot) (be16 a) b) fits₁ (inr o₁)
-      ∙ part_put_other (number_at slot) P n (be16 a) b fits₂ (inr o₂) in
+      ∙ part_put_other (row_at l slot) rows (put (number_at slot) (be16 a) b) fits₁ P n (inr o₁)
+      ∙ part_put_other (number_at slot) (be16 a) b fits₂ P n (inr o₂) in
       subst (λ (m : Layout). pivot_row ms m c p b₂ ≡ pivot_row ms m c p b) r.layout z
 
   -- a new pivot is the row of its slot, and leaves the rows of the slots
@@ -75,6 +75,6 @@ module _ (ms : List Model) (k : Counts) (l : Layout) (b : List ℕ) (r : Ready m
       let i = t.2.0 in
       let ri = rows_end i (omega (arith, t.2.1)) in
       let o : (row_at l i + offset ms c) + n ≤ P = omega arith in
-      let ey : y ≡ slot_row ms l c slot b = t.1 ∙ ap (part P n) w ∙ part_put_same P n (slot_row ms l c slot b) b fits (sym long) in
-      let ex : x ≡ slot_row ms l c i b = t.2.2 ∙ ap (part (row_at l i + offset ms c) n) w ∙ part_put_other P (row_at l i + offset ms c) n (slot_row ms l c slot b) b fits (inl o) in
+      let ey : y ≡ slot_row ms l c slot b = t.1 ∙ ap (part P n) w ∙ part_put_same P (slot_row ms l c slot b) b fits n (sym long) in
+      let ex : x ≡ slot_row ms l c i b = t.2.2 ∙ ap (part (row_at l i + offset ms c) n) w ∙ part_put_other P (slot_row ms l c slot b) b fits (row_at l i + offset ms c) n (inl o) in
       (t.0, ey ∙ ap (λ (m : Layout). slot_row ms m c slot b) r.layout, (i, t.2.1, ex ∙ ap (λ (m : Layout). slot_row ms m c i b) r.layout))

@@ -8,3 +8,4 @@ pub mod History
 pub mod Image
 pub mod Works
 pub mod Laws
+pub mod Inventories

@@ -4,36 +4,37 @@ ghost use Rattle.refusal.specs.Refusals.{answered};
 ghost use Rattle.refusal.specs.declared.Refusal.TheVariants.{NoSuchChannel, PivotsFull, NoSuchPivot};
 ghost use Rattle.index.specs.Limits.{pivots_in};
 
-use crate::counts::Counts;
-use crate::layout::Layout;
+use crate::inventory::Inventory;
 use refusal::Refusal;
 
-// Whether there is such a channel.
-pub fn check_channel(l: &Layout, c: usize) -> Result<(), Refusal>
-    ensures { result ≡ answered (if nat_lt c l.now.channels then None else Some NoSuchChannel) tt }
-{
-    if c >= l.channels {
-        return Err(Refusal::NoSuchChannel);
+impl Inventory {
+    // Whether there is such a channel.
+    pub(crate) fn check_channel(&self, c: usize) -> Result<(), Refusal>
+        ensures { result ≡ answered (if nat_lt c self.now.layout.channels then None else Some NoSuchChannel) tt }
+    {
+        if c >= self.layout.channels {
+            return Err(Refusal::NoSuchChannel);
+        }
+        Ok(())
     }
-    Ok(())
-}
 
-// Whether a channel can take one more pivot.
-pub fn check_room(counts: &Counts, c: usize) -> Result<(), Refusal>
-    ensures { result ≡ answered (if nat_lt (pivots_in counts.now c) 8 then None else Some PivotsFull) tt }
-{
-    if counts.pivots_in(c) >= 8 {
-        return Err(Refusal::PivotsFull);
+    // Whether a channel can take one more pivot.
+    pub(crate) fn check_room(&self, c: usize) -> Result<(), Refusal>
+        ensures { result ≡ answered (if nat_lt (pivots_in self.now.counts c) 8 then None else Some PivotsFull) tt }
+    {
+        if self.counts.pivots_in(c) >= 8 {
+            return Err(Refusal::PivotsFull);
+        }
+        Ok(())
     }
-    Ok(())
-}
 
-// Whether a channel has such a pivot.
-pub fn check_pivot(counts: &Counts, c: usize, p: usize) -> Result<(), Refusal>
-    ensures { result ≡ answered (if nat_lt p (pivots_in counts.now c) then None else Some NoSuchPivot) tt }
-{
-    if p >= counts.pivots_in(c) {
-        return Err(Refusal::NoSuchPivot);
+    // Whether a channel has such a pivot.
+    pub(crate) fn check_pivot(&self, c: usize, p: usize) -> Result<(), Refusal>
+        ensures { result ≡ answered (if nat_lt p (pivots_in self.now.counts c) then None else Some NoSuchPivot) tt }
+    {
+        if p >= self.counts.pivots_in(c) {
+            return Err(Refusal::NoSuchPivot);
+        }
+        Ok(())
     }
-    Ok(())
 }

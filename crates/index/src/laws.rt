@@ -2,22 +2,16 @@
 ghost use Rattle.index.specs.Laws.{HistoryShows, HeldAlike, SearchKeeps};
 
 /// After any history the counts and the store show exactly what the history holds.
-pub fn history_shows() -> u8
+pub fn history_shows()
     ensures { HistoryShows }
-{
-    0
-}
+{}
 
 /// Histories that hold the same leave the same counts and the same stated bytes.
-pub fn held_alike() -> u8
+pub fn held_alike()
     ensures { HeldAlike }
-{
-    0
-}
+{}
 
 /// A search changes nothing.
-pub fn search_keeps() -> u8
+pub fn search_keeps()
     ensures { SearchKeeps }
-{
-    0
-}
+{}

@@ -8,7 +8,7 @@ use metric::channels::ChannelSet;
 use patch::{patch_bytes, row_offset, used_channels};
 
 /// The parts of a store: where rows, pivot rows and distances begin, and how many bytes it has.
-#[derive(Clone, Copy)]
+#[derive(Clone, Copy, PartialEq, Eq, Debug)]
 pub struct Layout {
     pub channels: usize,
     pub capacity: usize,
@@ -30,7 +30,7 @@ pub fn layout_of<S: ChannelSet>(set: &S, capacity: u16) -> Layout
 {
     let channels = used_channels(set);
     let row = patch_bytes(set);
-    let capacity = capacity as usize;
+    let capacity = usize::from(capacity);
     let rows = 2 * capacity;
     let pivots = rows + capacity * row;
     let distances = pivots + 8 * row;
@@ -47,7 +47,7 @@ pub fn layout_of<S: ChannelSet>(set: &S, capacity: u16) -> Layout
 }
 
 /// Where the row of a channel lies in a patch.
-#[derive(Clone, Copy)]
+#[derive(Clone, Copy, PartialEq, Eq, Debug)]
 pub struct RowSpan {
     pub start: usize,
     pub width: usize,
@@ -67,34 +67,6 @@ pub fn row_span<S: ChannelSet>(set: &S, l: &Layout, c: usize) -> RowSpan
 }
 
 impl Layout {
-    // Where the rows of a slot lie, by the formula alone; so for the two below.
-    fn row_address(&self, slot: usize) -> usize
-        requires sound { Sound self.now }
-        requires slot { slot < self.now.capacity }
-        ensures { result ≡ row_at self.now slot }
-    {
-        self.rows + slot * self.row
-    }
-
-    fn pivot_address(&self, before: usize, width: usize, pivot: usize) -> usize
-        requires sound { Sound self.now }
-        requires inside { before + width ≤ self.now.row }
-        requires pivot { pivot < 8 }
-        ensures { result ≡ pivot_at self.now before width pivot }
-    {
-        self.pivots + 8 * before + pivot * width
-    }
-
-    fn distance_address(&self, slot: usize, channel: usize, pivot: usize) -> usize
-        requires sound { Sound self.now }
-        requires slot { slot < self.now.capacity }
-        requires channel { channel < self.now.channels }
-        requires pivot { pivot < 8 }
-        ensures { result ≡ distance_at self.now slot channel pivot }
-    {
-        self.distances + (slot * self.channels + channel) * 16 + 2 * pivot
-    }
-
     /// Where the rows of a slot begin.
     pub fn row_at(&self, slot: usize) -> usize
         requires sound { Sound self.now }
@@ -103,7 +75,7 @@ impl Layout {
         ensures begins { self.now.rows ≤ result }
         ensures ends { result + self.now.row ≤ self.now.pivots }
     {
-        self.row_address(slot)
+        self.rows + slot * self.row
     }
 
     /// Where the row of a pivot begins, in a channel whose rows begin at `before` in a patch.
@@ -115,7 +87,7 @@ impl Layout {
         ensures begins { self.now.pivots ≤ result }
         ensures ends { result + width ≤ self.now.distances }
     {
-        self.pivot_address(before, width, pivot)
+        self.pivots + 8 * before + pivot * width
     }
 
     /// Where the distance of a slot's row in a channel to a pivot stands.
@@ -128,7 +100,7 @@ impl Layout {
         ensures begins { self.now.distances ≤ result }
         ensures ends { result + 2 ≤ self.now.size }
     {
-        self.distance_address(slot, channel, pivot)
+        self.distances + (slot * self.channels + channel) * 16 + 2 * pivot
     }
 
     /// Where the distances of a slot begin: eight in each channel.
@@ -138,6 +110,6 @@ impl Layout {
         ensures at { result ≡ distance_at self.now slot 0 0 }
         ensures ends { result + 16 * self.now.channels ≤ self.now.size }
     {
-        self.distance_address(slot, 0, 0)
+        self.distance_at(slot, 0, 0)
     }
 }

@@ -4,6 +4,7 @@
 mod bytes;
 mod checks;
 pub mod counts;
+pub mod inventory;
 pub mod laws;
 pub mod layout;
 pub mod pivot_index;

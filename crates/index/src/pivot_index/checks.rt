@@ -1,8 +1,10 @@
 //! What every call on a store checks first.
 ghost use Rattle.patch.specs.Patches.{few};
+ghost use Rattle.index.specs.Inventories.{Taken};
 ghost use Rattle.index.specs.Works.{Opened};
 
 use super::PivotIndex;
+use crate::inventory::Inventory;
 use crate::layout::{Layout, layout_of};
 use metric::channels::ChannelSet;
 use refusal::Refusal;
@@ -17,5 +19,16 @@ impl<S: ChannelSet> PivotIndex<S> {
             return Err(Refusal::BadStore);
         }
         Ok(l)
+    }
+
+    /// What is held and where it lies in the store, which has to be long enough for it. Refused: 12.
+    pub fn inventory_in(&self, store: &[u8]) -> Result<Inventory, Refusal>
+        ensures { Taken (few (S.models self.now.set)) self.now.counts store.now result }
+    {
+        let layout = self.layout_in(store)?;
+        Ok(Inventory {
+            layout,
+            counts: self.counts,
+        })
     }
 }

@@ -8,22 +8,10 @@ ghost use Rattle.index.specs.History.{Call, Holds, held, place, insert as insert
 ghost use Rattle.index.specs.Laws.{ShowsHistory};
 
 use super::PivotIndex;
-use crate::steps::{first_slot, shift_slot};
-use crate::works::store_next;
 use metric::channels::ChannelSet;
 use refusal::Refusal;
 
 impl<S: ChannelSet> PivotIndex<S> {
-    // The first slot that has an accession number, as far as the bytes found say.
-    fn slot_of(&self, store: &[u8], accession: u16) -> Option<u16>
-        ensures { result ≡ find_slot (few (S.models self.now.set)) self.now.counts store.now accession }
-    {
-        match self.layout_in(store) {
-            Ok(_) => first_slot(store, self.counts.held, accession),
-            Err(_) => None,
-        }
-    }
-
     /// The slot of an accession number, the first where several have it; none where the store is too short.
     ///
     /// Where new and a history of calls have led to this index and this store, the store's bytes and the counts are exactly the image of
@@ -33,7 +21,7 @@ impl<S: ChannelSet> PivotIndex<S> {
         ensures shows { ShowsHistory (S.models self.now.set) self.now.counts store.now }
         ensures held { (cap : ℕ) (b : List ℕ) (h : List Call) → Holds (S.models self.now.set) self.now.counts store.now cap b h → result ≡ place accession (held (S.models self.now.set) cap h) }
     {
-        self.slot_of(store, accession)
+        self.inventory_in(store).ok()?.first_slot(store, accession)
     }
 
     /// Stores a patch in the next slot: its accession number, its rows, and their distances to every pivot. Refused, in
@@ -47,7 +35,19 @@ impl<S: ChannelSet> PivotIndex<S> {
         ensures asks { AddsOnly (S.asked self.old.set) (S.asked self.new.set) (InsertAsks (few (S.models self.old.set)) self.old.counts store.old rows.now) }
         ensures history { (cap : ℕ) (b : List ℕ) (h : List Call) → Holds (S.models self.old.set) self.old.counts store.old cap b h → Holds (S.models self.new.set) self.new.counts store.new cap b (inserting accession rows.now ∷ h) }
     {
-        self.try_insert(store, accession, rows)
+        let inventory = self.inventory_in(store)?;
+        if rows.len() != inventory.layout.row {
+            return Err(Refusal::WrongRowsLength);
+        }
+        if inventory.first_slot(store, accession).is_some() {
+            return Err(Refusal::AlreadyHeld);
+        }
+        if self.counts.held >= self.counts.capacity {
+            return Err(Refusal::Full);
+        }
+        inventory.store_next(&mut self.set, store, accession, rows);
+        self.counts.held += 1;
+        Ok(())
     }
 
     /// Takes out the patch of an accession number; the patch of the last slot moves into its slot. Refused, in this order: 12, 4.
@@ -58,48 +58,12 @@ impl<S: ChannelSet> PivotIndex<S> {
         ensures same { self.new.set ≡ self.old.set }
         ensures history { (cap : ℕ) (b : List ℕ) (h : List Call) → Holds (S.models self.old.set) self.old.counts store.old cap b h → Holds (S.models self.new.set) self.new.counts store.new cap b (removing accession ∷ h) }
     {
-        self.try_remove(store, accession)
-    }
-
-    // Insert, by its rule.
-    fn try_insert(&mut self, store: &mut [u8], accession: u16, rows: &[u8]) -> Result<(), Refusal>
-        ensures answer { result ≡ answered (insert_refusal (few (S.models self.old.set)) self.old.counts store.old accession rows.now) tt }
-        ensures counts { self.new.counts ≡ insert_counts (few (S.models self.old.set)) self.old.counts store.old accession rows.now }
-        ensures bytes { store.new ≡ insert_bytes (few (S.models self.old.set)) self.old.counts store.old accession rows.now }
-        ensures same { S.models self.new.set ≡ S.models self.old.set }
-        ensures refused { is_ok result ≡ false → self.new.set ≡ self.old.set }
-        ensures asks { AddsOnly (S.asked self.old.set) (S.asked self.new.set) (InsertAsks (few (S.models self.old.set)) self.old.counts store.old rows.now) }
-    {
-        let l = self.layout_in(store)?;
-        if rows.len() != l.row {
-            return Err(Refusal::WrongRowsLength);
-        }
-        if let Some(_) = first_slot(store, self.counts.held, accession) {
-            return Err(Refusal::AlreadyHeld);
-        }
-        if self.counts.held >= self.counts.capacity {
-            return Err(Refusal::Full);
-        }
-        let counts = self.counts;
-        store_next(&mut self.set, store, &l, &counts, accession, rows);
-        self.counts.held += 1;
-        Ok(())
-    }
-
-    // Remove, by its rule.
-    fn try_remove(&mut self, store: &mut [u8], accession: u16) -> Result<(), Refusal>
-        ensures answer { result ≡ answered (remove_refusal (few (S.models self.old.set)) self.old.counts store.old accession) tt }
-        ensures counts { self.new.counts ≡ remove_counts (few (S.models self.old.set)) self.old.counts store.old accession }
-        ensures bytes { store.new ≡ remove_bytes (few (S.models self.old.set)) self.old.counts store.old accession }
-        ensures same { self.new.set ≡ self.old.set }
-    {
-        let l = self.layout_in(store)?;
-        let Some(slot) = first_slot(store, self.counts.held, accession) else {
+        let inventory = self.inventory_in(store)?;
+        let Some(slot) = inventory.first_slot(store, accession) else {
             return Err(Refusal::NotHeld);
         };
-        let last = self.counts.held - 1;
-        shift_slot(store, &l, last as usize, slot as usize);
-        self.counts.held = last;
+        inventory.shift_slot(store, usize::from(slot));
+        self.counts.held -= 1;
         Ok(())
     }
 }

@@ -1,6 +1,0 @@
-use Rattle.std.proofs.Common.{◌≡◌}
-use Rattle.index.specs.Steps.{each, free_distance}
-use Rattle.index.proofs.steps.free_distances.Given as goal
-
-abbrev pub invariant-loop-slot : goal.invariant-loop-slot
-invariant-loop-slot l = l.store ≡ each l.slot (free_distance l.l l.c l.p l.last) l.initial.store
