@@ -1,10 +1,10 @@
 //! The weighted bounds of a slot.
 ghost use Rattle.std.specs.Prelude.{◌≡◌, ℕ, ◌-◌, ◌*◌, ◌<◌, ◌≤◌, length, slice_index};
-ghost use Rattle.engine.specs.Tables.{slot_family};
+ghost use Rattle.engine.specs.Outcomes.{posed, family_of};
 ghost use Rattle.engine.specs.Slots.{weighted_lower, weighted_upper, Filled, Weighable, Unmeasured};
 
 use crate::gaps::rank;
-use crate::records::Candidate;
+use crate::records::{Candidate, Question};
 use crate::source::Source;
 use aggregate::{Aggregate, Weighted};
 
@@ -13,7 +13,7 @@ pub(crate) fn scale(weight: u8, x: u16) -> Weighted
     ensures value { result ≡ weight * x }
     ensures small { result ≤ 16711425 }
 {
-    weight as Weighted * x as Weighted
+    Weighted::from(weight) * Weighted::from(x)
 }
 
 // The weighted bounds of a slot's distance in channel c, lower and upper.
@@ -64,23 +64,29 @@ pub(crate) fn weigh<M, S: Source<M>>(
 pub(crate) fn extremes<M, S: Source<M>, A: Aggregate>(
     source: &S,
     meter: &M,
-    aggregate: &A,
-    weights: &[u8],
+    question: &Question<A>,
     slot: usize,
 ) -> (Weighted, Weighted)
     requires ready { S.ready source.now meter.now }
     requires slot { slot < (S.tables source.now meter.now).slots }
-    requires weighable { Weighable (S.tables source.now meter.now) weights.now }
-    ensures lower { result.0 ≡ (slot_family (S.tables source.now meter.now) weights.now (A.Aggregate.meaning aggregate.now)).bound slot 0 }
-    ensures upper { result.1 ≡ (slot_family (S.tables source.now meter.now) weights.now (A.Aggregate.meaning aggregate.now)).upper slot }
+    requires weighable { Weighable (S.tables source.now meter.now) question.now.weights.now }
+    ensures lower { result.0 ≡ (family_of (S.tables source.now meter.now) (posed A.Aggregate.meaning question.now)).bound slot 0 }
+    ensures upper { result.1 ≡ (family_of (S.tables source.now meter.now) (posed A.Aggregate.meaning question.now)).upper slot }
 {
     let mut lowers: [Weighted; 8] = [0; 8];
     let mut uppers: [Weighted; 8] = [0; 8];
-    weigh(source, meter, weights, slot, &mut lowers, &mut uppers);
-    let channels = weights.len();
+    weigh(
+        source,
+        meter,
+        question.weights,
+        slot,
+        &mut lowers,
+        &mut uppers,
+    );
+    let channels = question.weights.len();
     (
-        aggregate.combine(&lowers[0..channels]),
-        aggregate.combine(&uppers[0..channels]),
+        question.aggregate.combine(&lowers[..channels]),
+        question.aggregate.combine(&uppers[..channels]),
     )
 }
 
@@ -121,7 +127,7 @@ pub(crate) fn unmeasured<M, S: Source<M>>(
     narrow(&lowers, &mut gaps);
     let mut order: [u8; 8] = [0; 8];
     let channels = weights.len();
-    rank(&gaps[0..channels], &mut order);
+    rank(&gaps[..channels], &mut order);
     Candidate {
         bound,
         accession: source.number(meter, slot),

@@ -18,15 +18,14 @@ returns g c =
     let us = c.weigh.new.uppers in
     let vs = c.narrow.new.uppers in
     let e = c.requires.weighable.weighted in
-    let z : length w - 0 ≡ length w = omega arith in
-    let n : length (take (length w - 0) vs) ≡ m = rw z (length-take-le (length w) vs (omega (arith, c.narrow.auto.uppers)) ∙ e) in
+    let n : length (take (length w) vs) ≡ m = length-take-le (length w) vs (omega (arith, c.narrow.auto.uppers)) ∙ e in
     let gs = gaps_are t w i (length w) ls us vs c.weigh.ensures.lowers c.weigh.ensures.uppers (λ k l. c.narrow.ensures k (omega (arith, c.weigh.auto.lowers))) in
     record {
       sound = record {
         slot = c.requires.slot;
         number = c.number.ensures;
         within = omega arith;
-        order = in_order_at (length (take (length w - 0) vs)) m (take (length w - 0) vs) c.rank.new.order n c.rank.ensures cs (subst (λ (k : ℕ). Gaps k cs (take (length w - 0) vs)) e gs);
+        order = in_order_at (length (take (length w) vs)) m (take (length w) vs) c.rank.new.order n c.rank.ensures cs (subst (λ (k : ℕ). Gaps k cs (take (length w) vs)) e gs);
         entries = subst (λ (k : ℕ). Filled (entry m cs 0) k ls) e (filled_same (weighted_lower t w i) (entry m cs 0) (length w) ls (entry_none m cs) c.weigh.ensures.lowers);
         order_long = c.rank.auto.order;
         entries_long = c.weigh.auto.lowers;

@@ -19,10 +19,10 @@ entered t w x k d v s more few e kn dn vn small =
     subst (λ (n : ℕ). Filled (entry m cs (x.measured + 1)) n (set x.entries k v)) (sym e)
     (filled_next m cs x.measured (x.measured + 1) k v x.entries (omega (arith, s.entries_long)) (omega (arith, o.0)) (ap (place m cs) kn ∙ o.1) (omega arith) (vn ∙ ap (λ (y : ℕ). get_or w k 0 * y) dn) small s.entries)
 
-pub combine-bound-requires : goal.combine-bound-requires
-combine-bound-requires g c =
+pub combine-requires : goal.combine-requires
+combine-requires g c =
     let t = g.S.Source.tables c.args.source.now c.args.meter.now in
-    let w = c.args.weights.now in
+    let w = c.args.question.now.weights.now in
     let x = c.args.top in
     let s = c.requires.sound in
     let k = c.next_channel-c in
@@ -35,7 +35,7 @@ pub returns : goal.returns
 returns g c =
     let S = g.S.Source in
     let t = S.tables c.args.source.now c.args.meter.now in
-    let w = c.args.weights.now in
+    let w = c.args.question.now.weights.now in
     let x = c.args.top in
     let s = c.requires.sound in
     let k = c.next_channel-c in
@@ -50,7 +50,7 @@ returns g c =
       next = record {
         coherent = record {
           sound = record { slot = s.slot; number = s.number; within = omega (arith, c.requires.more); order = s.order; entries = subst (λ (n : ℕ). Filled h n es) e f; order_long = s.order_long; entries_long = long };
-          bound = c.combine-bound.ensures ∙ ap (g.A.Aggregate.meaning c.args.aggregate.now) (filled_all h (length w) es (omega arith) f ∙ ap (λ (n : ℕ). map h (range_with_len 0 n)) e);
+          bound = c.combine.ensures ∙ ap (g.A.Aggregate.meaning c.args.question.now.aggregate.now) (filled_all h (length w) es (omega arith) f ∙ ap (λ (n : ℕ). map h (range_with_len 0 n)) e);
         };
         slot = refl;
         measured = omega arith;
