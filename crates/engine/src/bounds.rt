@@ -7,6 +7,7 @@ use crate::gaps::rank;
 use crate::records::{Candidate, Question};
 use crate::source::Source;
 use aggregate::{Aggregate, Weighted};
+use std::array;
 
 // A number under a weight.
 pub(crate) fn scale(weight: u8, x: u16) -> Weighted
@@ -14,26 +15,6 @@ pub(crate) fn scale(weight: u8, x: u16) -> Weighted
     ensures small { result ≤ 16711425 }
 {
     Weighted::from(weight) * Weighted::from(x)
-}
-
-// The weighted bounds of a slot's distance in channel c, lower and upper.
-fn weighted<M, S: Source<M>>(
-    source: &S,
-    meter: &M,
-    weights: &[u8],
-    slot: usize,
-    c: usize,
-) -> (Weighted, Weighted)
-    requires ready { S.ready source.now meter.now }
-    requires slot { slot < (S.tables source.now meter.now).slots }
-    requires channel { c < (S.tables source.now meter.now).channels }
-    requires weights { length weights.now ≡ (S.tables source.now meter.now).channels }
-    ensures lower { result.0 ≡ weighted_lower (S.tables source.now meter.now) weights.now slot c }
-    ensures upper { result.1 ≡ weighted_upper (S.tables source.now meter.now) weights.now slot c }
-    ensures small { (result.0 ≤ 16711425) × (result.1 ≤ 16711425) }
-{
-    let (lower, upper) = source.bounds(meter, slot, c);
-    (scale(weights[c], lower), scale(weights[c], upper))
 }
 
 // Writes a slot's weighted bounds to the fronts of `lowers` and `uppers`, in channel order.
@@ -53,10 +34,10 @@ pub(crate) fn weigh<M, S: Source<M>>(
     ensures lowers { Filled (weighted_lower (S.tables source.now meter.now) weights.now slot) (length weights.now) lowers.new }
     ensures uppers { Filled (weighted_upper (S.tables source.now meter.now) weights.now slot) (length weights.now) uppers.new }
 {
-    for c in 0..weights.len() {
-        let (lower, upper) = weighted(source, meter, weights, slot, c);
-        lowers[c] = lower;
-        uppers[c] = upper;
+    for (c, weight) in weights.iter().enumerate() {
+        let (lower, upper) = source.bounds(meter, slot, c);
+        lowers[c] = scale(*weight, lower);
+        uppers[c] = scale(*weight, upper);
     }
 }
 
@@ -90,21 +71,12 @@ pub(crate) fn extremes<M, S: Source<M>, A: Aggregate>(
     )
 }
 
-// What is unknown between two bounds; nothing where the lower is above.
-fn gap(lower: Weighted, upper: Weighted) -> Weighted
-    ensures { result ≡ upper - lower }
+// What is unknown between lower and upper bounds; nothing where the lower is above.
+fn gaps_between(lowers: &[Weighted; 8], uppers: &[Weighted; 8]) -> [Weighted; 8]
+    ensures long { length result ≡ 8 }
+    ensures gaps { (c : ℕ) → c < 8 → slice_index result c ≡ slice_index uppers.now c - slice_index lowers.now c }
 {
-    upper.saturating_sub(lower)
-}
-
-// Takes the lower bounds from the upper bounds, which leaves the gaps.
-fn narrow(lowers: &[Weighted], uppers: &mut [Weighted])
-    requires { length lowers.now ≤ length uppers.old }
-    ensures { (c : ℕ) → c < length lowers.now → slice_index uppers.new c ≡ slice_index uppers.old c - slice_index lowers.now c }
-{
-    for c in 0..lowers.len() {
-        uppers[c] = gap(lowers[c], uppers[c]);
-    }
+    array::from_fn(|c| uppers[c].saturating_sub(lowers[c]))
 }
 
 // A candidate for a slot, of which nothing is measured.
@@ -122,9 +94,9 @@ pub(crate) fn unmeasured<M, S: Source<M>>(
     ensures { Unmeasured (S.tables source.now meter.now) weights.now slot bound result }
 {
     let mut lowers: [Weighted; 8] = [0; 8];
-    let mut gaps: [Weighted; 8] = [0; 8];
-    weigh(source, meter, weights, slot, &mut lowers, &mut gaps);
-    narrow(&lowers, &mut gaps);
+    let mut uppers: [Weighted; 8] = [0; 8];
+    weigh(source, meter, weights, slot, &mut lowers, &mut uppers);
+    let gaps = gaps_between(&lowers, &uppers);
     let mut order: [u8; 8] = [0; 8];
     let channels = weights.len();
     rank(&gaps[..channels], &mut order);

@@ -23,10 +23,7 @@ fn offer_one(uppers: &mut [Upper], len: usize, k: usize, x: Weighted) -> usize
     ensures room { k ≤ length uppers.old → Offered k len x uppers.old result uppers.new }
     ensures none { length uppers.old < k → result ≡ len }
 {
-    match select::offer(uppers, len, k, x) {
-        Some(more) => more,
-        None => len,
-    }
+    select::offer(uppers, len, k, x).unwrap_or(len)
 }
 
 // Writes the first bound of each slot to its candidate, keeps the k least upper bounds, and says how many are kept.
@@ -76,10 +73,7 @@ pub(crate) fn limit<M, S: Source<M>, A: Aggregate>(
 fn admissible(bound: Weighted, radius: Weighted, limit: Option<Weighted>) -> bool
     ensures { result ≡ passes radius (plain limit) bound }
 {
-    match limit {
-        Some(most) => bound <= radius && bound <= most,
-        None => bound <= radius,
-    }
+    bound <= radius && limit.is_none_or(|most| bound <= most)
 }
 
 // Adds a slot's candidate to those in the first `len`.

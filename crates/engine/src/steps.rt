@@ -22,7 +22,7 @@ fn turn(top: &Candidate, channels: usize, radius: Weighted, budget: u32, measure
 {
     if top.bound > radius {
         Turn::Finish
-    } else if top.measured as usize == channels {
+    } else if usize::from(top.measured) == channels {
         Turn::Name
     } else if measured >= budget {
         Turn::Stop
@@ -53,7 +53,7 @@ fn name(
     Progress {
         waiting: at.waiting - 1,
         named: at.named + 1,
-        measured: at.measured,
+        ..at
     }
 }
 
@@ -62,7 +62,7 @@ fn next_channel(x: &Candidate) -> usize
     requires { x.now.measured < length x.now.order }
     ensures { result ≡ slice_index x.now.order x.now.measured }
 {
-    x.order[x.measured as usize] as usize
+    usize::from(x.order[usize::from(x.measured)])
 }
 
 // Measures the next channel of a candidate.
@@ -118,9 +118,8 @@ fn measure<M, S: Source<M>, A: Aggregate>(
     let next = advance(source, meter, question, top);
     let _before = heap::replace_top(candidates, at.waiting, next);
     Progress {
-        waiting: at.waiting,
-        named: at.named,
         measured: at.measured + 1,
+        ..at
     }
 }
 

@@ -16,10 +16,10 @@ returns g c =
     let cs : Channels = channels_of t w i in
     let ls = c.weigh.new.lowers in
     let us = c.weigh.new.uppers in
-    let vs = c.narrow.new.uppers in
+    let vs = c.gaps_between-gaps.result in
     let e = c.requires.weighable.weighted in
-    let n : length (take (length w) vs) ≡ m = length-take-le (length w) vs (omega (arith, c.narrow.auto.uppers)) ∙ e in
-    let gs = gaps_are t w i (length w) ls us vs c.weigh.ensures.lowers c.weigh.ensures.uppers (λ k l. c.narrow.ensures k (omega (arith, c.weigh.auto.lowers))) in
+    let n : length (take (length w) vs) ≡ m = length-take-le (length w) vs (omega (arith, c.gaps_between-gaps.ensures.long)) ∙ e in
+    let gs = gaps_are t w i (length w) ls us vs c.weigh.ensures.lowers c.weigh.ensures.uppers (λ k l. c.gaps_between-gaps.ensures.gaps k (omega arith)) in
     record {
       sound = record {
         slot = c.requires.slot;

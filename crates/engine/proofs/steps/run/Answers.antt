@@ -17,9 +17,9 @@ returns-in-Some-clause-ends g c =
     let n = c.step in
     let end = c.in-Some.end in
     λ old s st.
-        (let was = l.invariant.2 old s st in
-        ends_at t q s old l.candidates l.hits l.progress (S.asked a.source.now a.meter.now) (S.asked a.source.now l.meter) was n.new.hits n.new.progress (S.asked a.source.now n.new.meter) end n.new.candidates
-        (subst (λ (u : Tables). (o : List Neighbor) (z : State ℕ) → Stands u q o l.candidates l.hits l.progress z → Steps (Some end) u q z o l.candidates n.new.candidates l.hits n.new.hits l.progress n.new.progress (S.asked a.source.now l.meter) (S.asked a.source.now n.new.meter)) l.invariant.0 c.in-Some.ensures.steps old was.s was.stands))
+    (let was = l.invariant.2 old s st in
+    ends_at t q s old l.candidates l.hits l.progress (S.asked a.source.now a.meter.now) (S.asked a.source.now l.meter) was n.new.hits n.new.progress (S.asked a.source.now n.new.meter) end n.new.candidates
+    (subst (λ (u : Tables). (o : List Neighbor) (z : State ℕ) → Stands u q o l.candidates l.hits l.progress z → Steps (Some end) u q z o l.candidates n.new.candidates l.hits n.new.hits l.progress n.new.progress (S.asked a.source.now l.meter) (S.asked a.source.now n.new.meter)) l.invariant.0 c.in-Some.ensures.steps old was.s was.stands))
 
 pub returns-in-Some-clause-kept : goal.returns-in-Some-clause-kept
 returns-in-Some-clause-kept g c = c.in-Some.ensures.kept ∙ c.steps.invariant.0

@@ -37,8 +37,8 @@ returns-in-Name-clause-steps g c =
     let m = c.in-Name.ensures in
     let more : a.progress.now.named < a.question.now.k = c.if-at-question.false in
     λ old s st.
-        (let room : a.progress.now.named < length a.hits.now = (let r = c.requires.room in let z = c.in-Some.ensures.some in let f = st.few in omega arith) in
-        is_named (S.tables a.source.now a.meter.now) (posed g.A.Aggregate.meaning a.question.now) old a.candidates.now a.hits.now a.progress.now s st c.in-Some.top c.in-Some.ensures more m.0 e.popped.0 n.new.candidates n.new.hits n.result (S.asked a.source.now a.meter.now) room n.auto.candidates (m.1 ∙ c.requires.weighable.weighted) e.popped.1 e.hits e.progress)
+    (let room : a.progress.now.named < length a.hits.now = (let r = c.requires.room in let z = c.in-Some.ensures.some in let f = st.few in omega arith) in
+    is_named (S.tables a.source.now a.meter.now) (posed g.A.Aggregate.meaning a.question.now) old a.candidates.now a.hits.now a.progress.now s st c.in-Some.top c.in-Some.ensures more m.0 e.popped.0 n.new.candidates n.new.hits n.result (S.asked a.source.now a.meter.now) room n.auto.candidates (m.1 ∙ c.requires.weighable.weighted) e.popped.1 e.hits e.progress)
 
 pub returns-in-Measure-clause-steps : goal.returns-in-Measure-clause-steps
 returns-in-Measure-clause-steps g c =
@@ -48,7 +48,7 @@ returns-in-Measure-clause-steps g c =
     let e = n.ensures in
     let m = c.in-Measure.ensures in
     λ old s st.
-        is_measured (S.tables a.source.now a.meter.now) (posed g.A.Aggregate.meaning a.question.now) old a.candidates.now a.hits.now a.progress.now s st c.in-Some.top c.in-Some.ensures c.if-at-question.false m.0 e.replaced.0 e.replaced.1 n.new.candidates n.result (S.asked a.source.now a.meter.now) (S.asked a.source.now n.new.meter) n.auto.candidates (λ z. m.1 (z ∙ sym c.requires.weighable.weighted)) m.2 e.replaced.2 e.replaced.3 e.progress e.adds
+    is_measured (S.tables a.source.now a.meter.now) (posed g.A.Aggregate.meaning a.question.now) old a.candidates.now a.hits.now a.progress.now s st c.in-Some.top c.in-Some.ensures c.if-at-question.false m.0 e.replaced.0 e.replaced.1 n.new.candidates n.result (S.asked a.source.now a.meter.now) (S.asked a.source.now n.new.meter) n.auto.candidates (λ z. m.1 (z ∙ sym c.requires.weighable.weighted)) m.2 e.replaced.2 e.replaced.3 e.progress e.adds
 
 pub measure-requires-clause-sound : goal.measure-requires-clause-sound
 measure-requires-clause-sound g c =
