@@ -83,7 +83,7 @@ fn advance<M, S: Source<M>, A: Aggregate>(
     ensures adds { AddsAt (S.asked source.now meter.old) (S.asked source.now meter.new) (slice_index top.order top.measured) ((S.tables source.now meter.old).left top.slot (slice_index top.order top.measured)) ((S.tables source.now meter.old).right top.slot (slice_index top.order top.measured)) }
 {
     let c = next_channel(&top);
-    let distance = source.distance(meter, top.slot as usize, c);
+    let distance = source.distance(meter, usize::from(top.slot), c);
     let mut next = top;
     next.entries[c] = scale(question.weights[c], distance);
     let channels = question.weights.len();

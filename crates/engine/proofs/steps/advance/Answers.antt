@@ -27,7 +27,8 @@ combine-requires g c =
     let s = c.requires.sound in
     let k = c.next_channel-c in
     let v = c.scale in
-    let f = entered t w x k.result c.distance-distance.result v.result s c.requires.more c.requires.weighable.few c.requires.weighable.weighted k.ensures c.distance-distance.ensures.value v.ensures.value v.ensures.small in
+    let dv = rw c.from.ensures at c.distance-distance.ensures.value in
+    let f = entered t w x k.result c.distance-distance.result v.result s c.requires.more c.requires.weighable.few c.requires.weighable.weighted k.ensures dv v.ensures.value v.ensures.small in
     let long : length (set x.entries k.result v.result) ≡ 8 = length-set x.entries k.result v.result ∙ s.entries_long in
     filled_entries (entry t.channels (channels_of t w x.slot) (x.measured + 1)) (length w) (set x.entries k.result v.result) (omega arith) (omega arith) (omega arith) f
 
@@ -44,7 +45,8 @@ returns g c =
     let e = c.requires.weighable.weighted in
     let h : ℕ → ℕ = entry t.channels (channels_of t w x.slot) (x.measured + 1) in
     let es = set x.entries k.result v.result in
-    let f = entered t w x k.result d.result v.result s c.requires.more c.requires.weighable.few e k.ensures d.ensures.value v.ensures.value v.ensures.small in
+    let dv = rw c.from.ensures at d.ensures.value in
+    let f = entered t w x k.result d.result v.result s c.requires.more c.requires.weighable.few e k.ensures dv v.ensures.value v.ensures.small in
     let long : length es ≡ 8 = length-set x.entries k.result v.result ∙ s.entries_long in
     record {
       next = record {
@@ -58,5 +60,5 @@ returns g c =
       kept = d.ensures.kept;
       same = d.ensures.same;
       ready = d.ensures.ready;
-      adds = subst (λ (n : ℕ). AddsAt (S.asked c.args.source.now c.args.meter.now) (S.asked c.args.source.now d.new.meter) n (t.left x.slot n) (t.right x.slot n)) k.ensures d.ensures.adds;
+      adds = subst (λ (n : ℕ). AddsAt (S.asked c.args.source.now c.args.meter.now) (S.asked c.args.source.now d.new.meter) n (t.left x.slot n) (t.right x.slot n)) k.ensures (rw c.from.ensures at d.ensures.adds);
     }
