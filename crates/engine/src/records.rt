@@ -9,6 +9,7 @@ use queue::rank::Ranked;
 
 /// What is asked of the slots: a weight for each channel, how the weighted distances are aggregated, how many neighbours are wanted, how
 /// far away at most, and how many channels may be measured.
+#[derive_where(Clone, Copy)]
 pub struct Question<'a, A> {
     pub weights: &'a [u8],
     pub aggregate: &'a A,
