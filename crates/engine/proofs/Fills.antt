@@ -22,23 +22,20 @@ filled_more f c xs v h e s was =
     (let o = get_or-set_same xs c v 0 h in (o ∙ e, omega arith))
 
 -- the first m as a list, and as what an aggregate may be asked about
-pub filled_all : (f : ℕ → ℕ) (m : ℕ) (xs : List ℕ) → m ≤ length xs → Filled f m xs → take (m - 0) xs ≡ map f (range_with_len 0 m)
-filled_all f m xs h was =
-    let z : m - 0 ≡ m = omega arith in
-    rw z (fill_by_all f (take m xs) m 0 (length-take-le m xs h) (λ k l. get_or-take m xs k 0 l ∙ (was k l).0))
+pub filled_all : (f : ℕ → ℕ) (m : ℕ) (xs : List ℕ) → m ≤ length xs → Filled f m xs → take m xs ≡ map f (range_with_len 0 m)
+filled_all f m xs h was = fill_by_all f (take m xs) m 0 (length-take-le m xs h) (λ k l. get_or-take m xs k 0 l ∙ (was k l).0)
 
-pub filled_entries : (f : ℕ → ℕ) (m : ℕ) (xs : List ℕ) → 1 ≤ m → m ≤ 8 → m ≤ length xs → Filled f m xs → Entries (take (m - 0) xs)
+pub filled_entries : (f : ℕ → ℕ) (m : ℕ) (xs : List ℕ) → 1 ≤ m → m ≤ 8 → m ≤ length xs → Filled f m xs → Entries (take m xs)
 filled_entries f m xs some few h was =
-    let z : m - 0 ≡ m = omega arith in
     let n = length-take-le m xs h in
-    rw z (record {
+    record {
       some = omega arith;
       few = omega arith;
       small = λ k. ⊎_elim
           (λ l. omega (arith, get_or-take m xs k 0 l, (was k l).1))
           (λ l. omega (arith, get_or_past (take m xs) k 0 (omega arith)))
           (cases_lt k m);
-    })
+    }
 
 pub filled_same : (f g : ℕ → ℕ) (m : ℕ) (xs : List ℕ) → ((c : ℕ) → f c ≡ g c) → Filled f m xs → Filled g m xs
 filled_same f g m xs e was c l = ((was c l).0 ∙ e c, (was c l).1)
@@ -60,11 +57,10 @@ narrow_more ls us vs c v h e was = (
 )
 
 pub gaps_are : (t : Tables) (w : List ℕ) (i n : ℕ) (ls us vs : List ℕ) → Filled (weighted_lower t w i) n ls → Filled (weighted_upper t w i) n us
-    → ((c : ℕ) → c < n → get_or vs c 0 ≡ get_or us c 0 - get_or ls c 0) → Gaps n (channels_of t w i) (take (n - 0) vs)
+    → ((c : ℕ) → c < n → get_or vs c 0 ≡ get_or us c 0 - get_or ls c 0) → Gaps n (channels_of t w i) (take n vs)
 gaps_are t w i n ls us vs l u v c h =
-    let z : n - 0 ≡ n = omega arith in
     let x = get_or w c 0 in
-    rw z (get_or-take n vs c 0 h ∙ v c h ∙ ap (λ (a : ℕ). a - get_or ls c 0) (u c h).0 ∙ ap (λ (b : ℕ). x * t.upper i c - b) (l c h).0 ∙ sym (mul-sub x (t.upper i c) (t.lower i c)))
+    get_or-take n vs c 0 h ∙ v c h ∙ ap (λ (a : ℕ). a - get_or ls c 0) (u c h).0 ∙ ap (λ (b : ℕ). x * t.upper i c - b) (l c h).0 ∙ sym (mul-sub x (t.upper i c) (t.lower i c))
 
 pub in_order_at : (n m : ℕ) (gs order : List ℕ) → n ≡ m → ((cs : Channels) → Gaps n cs gs → InOrder n cs order) → (cs : Channels) → Gaps m cs gs → InOrder m cs order
 in_order_at n m gs order e h = subst (λ (k : ℕ). (cs : Channels) → Gaps k cs gs → InOrder k cs order) e h

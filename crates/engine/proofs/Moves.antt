@@ -1,5 +1,5 @@
 -- What the engine does at the least candidate is a move of the step rule.
-use Rattle.std.proofs.Common.{◌≡◌, ℕ, suc, ◌+◌, ◌-◌, ◌<◌, ◌≤◌, true, false, leb, List, [], ◌∷◌, ◌++◌, map, length, get_or, take, drop, set, sum_by, sym, ap, ◌∙◌, subst, inl, inr, ⊎_elim, arith, le-leb}
+use Rattle.std.proofs.Common.{◌≡◌, ℕ, suc, ◌+◌, ◌-◌, ◌<◌, ◌≤◌, true, false, leb, List, [], ◌∷◌, ◌++◌, map, length, get_or, take, drop, set, sum_by, sym, refl, ap, ◌∙◌, subst, inl, inr, ⊎_elim, arith, le-leb}
 use borrow.Author.Tests.{lt-leb}
 use Rattle.std.specs.List.Sorted.{IsPermutation}
 use Rattle.std.specs.List.{AllByRecursion as Every}
@@ -16,7 +16,7 @@ use Rattle.refine.specs.OrderLaws.{numbers, first_lt, first_eq}
 use Rattle.refine.specs.Bounds.{place}
 use Rattle.refine.specs.Chains.{Table, table}
 use Rattle.refine.specs.Steps as steps
-use Rattle.refine.specs.Steps.{State, done, halt, naming, measuring, key_now, Chosen, Move, full, dry, names, halts, measures, Taken}
+use Rattle.refine.specs.Steps.{State, Next, done, halt, naming, measuring, key_now, Chosen, Move, full, dry, names, halts, measures, Taken}
 use Rattle.refine.proofs.Lists.{all_both}
 use Rattle.refine.proofs.Takes.{taken_now}
 use Rattle.engine.specs.declared.records.Neighbor.{Neighbor}
@@ -27,7 +27,7 @@ use Rattle.engine.specs.Kinds.{ByBound, no_candidate}
 use Rattle.engine.specs.Slots.{Coherent}
 use Rattle.engine.specs.Passes.{spot}
 use Rattle.engine.specs.Outcomes.{Question, family_of, hit, Measured}
-use Rattle.engine.specs.Turns.{Advanced, Stands, Goes}
+use Rattle.engine.specs.Turns.{Advanced, Stands, Rests, Goes}
 use Rattle.engine.proofs.Cancels.{shuffled_cancel, shuffled_two}
 
 module _ (t : Tables) (q : Question) where
@@ -52,11 +52,15 @@ module _ (t : Tables) (q : Question) where
     abbrev front : List Candidate
     front = take p.waiting xs
 
-    pub is_full : q.k ≤ p.named → Move rule q.k q.budget s done
-    is_full h = full (let e = st.named in omega arith)
+    -- a step that ends the run changes nothing
+    rests : (asked : Asked) {n : Next ℕ} → Move rule q.k q.budget s n → Rests t q s n hs hs p p asked asked
+    rests asked m = record { move = m; hits = refl; progress = refl; asks = λ c x y h. h }
 
-    pub is_empty : Outside p.waiting xs → Move rule q.k q.budget s done
-    is_empty h = dry (all_shuffled _ (map spot front) s.live (IsPermutation-sym s.live (map spot front) st.live) (subst (λ (n : ℕ). Every (λ c. rule.within (key_now rule c) ≡ false) (map spot (take n xs))) (sym none) tt))
+    pub is_full : (asked : Asked) → q.k ≤ p.named → Rests t q s done hs hs p p asked asked
+    is_full asked h = rests asked (full (let e = st.named in omega arith))
+
+    pub is_empty : (asked : Asked) → Outside p.waiting xs → Rests t q s done hs hs p p asked asked
+    is_empty asked h = rests asked (dry (all_shuffled _ (map spot front) s.live (IsPermutation-sym s.live (map spot front) st.live) (subst (λ (n : ℕ). Every (λ c. rule.within (key_now rule c) ≡ false) (map spot (take n xs))) (sym none) tt)))
       where
         none : p.waiting ≡ 0
         none = ⊎_elim (λ e. e) (λ l. absurd (let w = st.within in omega arith)) h
@@ -102,16 +106,16 @@ module _ (t : Tables) (q : Question) where
       own : IsPermutation front (top ∷ rest)
       own = subst (λ (l : List Candidate). IsPermutation front l) front_is (IsPermutation-refl front)
 
-      pub is_dry : q.radius < top.bound → Move rule q.k q.budget s done
-      is_dry h = dry (all_shuffled _ (map spot front) s.live (IsPermutation-sym s.live (map spot front) st.live)
-          (All-map _ spot front (All-weaker (λ v. Fine v × ByBound top v) _ (λ v a. lt-leb _ q.radius (let e = a.0.bound in let b = after_bound top v a.1 in omega arith)) front (all_both Fine (ByBound top) front st.coherent near))))
+      pub is_dry : (asked : Asked) → q.radius < top.bound → Rests t q s done hs hs p p asked asked
+      is_dry asked h = rests asked (dry (all_shuffled _ (map spot front) s.live (IsPermutation-sym s.live (map spot front) st.live)
+          (All-map _ spot front (All-weaker (λ v. Fine v × ByBound top v) _ (λ v a. lt-leb _ q.radius (let e = a.0.bound in let b = after_bound top v a.1 in omega arith)) front (all_both Fine (ByBound top) front st.coherent near)))))
 
       module _ (more : p.named < q.k) (within : top.bound ≤ q.radius) where
         inside : rule.within (key_now rule (spot top)) ≡ true
         inside = le-leb _ q.radius (let e = fine.bound in omega arith)
 
-        pub is_halted : (top.measured ≡ t.channels → ⊥) → q.budget ≤ p.measured → Move rule q.k q.budget s halt
-        is_halted ne h = halts (spot top) (map spot rest) (chosen rest own) (let e = st.named in omega arith) inside ne (let e = st.measured in omega arith)
+        pub is_halted : (asked : Asked) → (top.measured ≡ t.channels → ⊥) → q.budget ≤ p.measured → Rests t q s halt hs hs p p asked asked
+        is_halted asked ne h = rests asked (halts (spot top) (map spot rest) (chosen rest own) (let e = st.named in omega arith) inside ne (let e = st.measured in omega arith))
 
         pub is_named : (y : Candidate) (ys : List Candidate) (hs' : List Neighbor) (p' : Progress) (asked : Asked) → p.named < length hs → length ys ≡ length xs
             → top.measured ≡ t.channels → Popped ByBound p.waiting y xs ys → hs' ≡ set hs p.named (record { accession = top.accession; distance = top.bound })

@@ -1,16 +1,18 @@
 -- From one step to the next, and to the end of a run.
-use Rattle.std.proofs.Common.{◌≡◌, ℕ, Bool, true, false, ◌⊎◌, List, sym, ◌∙◌, subst, inl, inr, ⊎_elim, arith}
+use Rattle.std.proofs.Common.{◌≡◌, ℕ, Bool, true, false, ◌⊎◌, List, Some, sym, ◌∙◌, subst, inl, inr, ⊎_elim, arith}
 use Rattle.metric.specs.Channels.{Asked}
 use Rattle.refine.specs.Bounds.{place}
 use Rattle.refine.specs.Chains.{table}
-use Rattle.refine.specs.Steps.{State, done, halt, Runs, finishes, stops, goes}
+use Rattle.refine.specs.Steps.{State, Runs, finishes, stops, goes}
 use Rattle.refine.proofs.Takes.{taken_end}
 use Rattle.engine.specs.declared.records.Neighbor.{Neighbor}
 use Rattle.engine.specs.declared.records.Candidate.{Candidate}
 use Rattle.engine.specs.declared.records.Progress.{Progress}
 use Rattle.engine.specs.Tables.{Tables, channels_of}
 use Rattle.engine.specs.Outcomes.{Question, family_of, Measured}
-use Rattle.engine.specs.Turns.{Stands, Rests, Goes, Ends}
+use Rattle.engine.specs.declared.records.End.{End}
+use Rattle.engine.specs.declared.records.End.TheVariants.{Finished, Stopped}
+use Rattle.engine.specs.Turns.{is_finished, Stands, Goes, Steps, Ends}
 
 -- a run from start has come to a state for which the data stand: what ends a run from there ends it from start, and what was asked
 -- since is measured at every such end
@@ -49,8 +51,7 @@ module _ (t : Tables) (q : Question) (start : State ℕ) (old : List Neighbor) (
         asks = λ c x y a. ⊎_elim inl (λ f. inr (f b was.s run)) (was.asks c x y (same c x y a));
       })
 
-    pub ends_done : Rests t q was.s done hs hs' p p' asked' asked'' → Ends t q start true old hs' p' asked asked''
-    ends_done h = ends true (finishes h.move) h.hits h.progress h.asks
-
-    pub ends_halt : Rests t q was.s halt hs hs' p p' asked' asked'' → Ends t q start false old hs' p' asked asked''
-    ends_halt h = ends false (stops h.move) h.hits h.progress h.asks
+    -- the end that a step comes to
+    pub ends_at : (end : End) (xs' : List Candidate) → Steps (Some end) t q was.s old xs xs' hs hs' p p' asked' asked'' → Ends t q start (is_finished end) old hs' p' asked asked''
+    ends_at Finished xs' h = ends true (finishes h.move) h.hits h.progress h.asks
+    ends_at Stopped xs' h = ends false (stops h.move) h.hits h.progress h.asks

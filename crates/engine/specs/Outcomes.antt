@@ -7,6 +7,7 @@ use Rattle.refine.specs.Steps.{State, begin, Runs, Taken}
 use Rattle.refine.specs.Bounds.{place}
 use Rattle.engine.specs.declared.records.Neighbor.{Neighbor}
 use Rattle.engine.specs.declared.records.Answer.{Answer}
+use Rattle.engine.specs.declared.records.Question as code
 use Rattle.engine.specs.Tables.{Tables, channels_of, slot_family}
 
 -- what a search is asked, besides the tables
@@ -19,6 +20,10 @@ pub record Question : Type 0 where
 
 abbrev pub asking : (weights : List ℕ) → (aggregate : List ℕ → ℕ) → (k radius budget : ℕ) → Question
 asking weights aggregate k radius budget = record { weights = weights; aggregate = aggregate; k = k; radius = radius; budget = budget }
+
+-- what the code asks, by what its aggregate means
+abbrev pub posed : {A : Type 0} → (A → List ℕ → ℕ) → code.Question A → Question
+posed meaning q = asking q.weights.now (meaning q.aggregate.now) q.k q.radius q.budget
 
 -- the slots in use
 abbrev pub slots_of : Tables → List ℕ

@@ -1,5 +1,5 @@
 -- One step of the engine, and a whole run.
-use Rattle.std.specs.Prelude.{◌≡◌, ℕ, suc, ◌+◌, ◌-◌, ◌<◌, ◌≤◌, Bool, ◌⊎◌, List, ◌++◌, map, length, take, drop, sum_by, ◌≢◌}
+use Rattle.std.specs.Prelude.{◌≡◌, ℕ, suc, ◌+◌, ◌-◌, ◌<◌, ◌≤◌, Bool, true, false, ◌⊎◌, List, ◌++◌, map, length, take, drop, sum_by, ◌≢◌, Option, Some, None}
 use Rattle.std.specs.List.Sorted.{IsPermutation}
 use Rattle.std.specs.List.{AllByRecursion as Every}
 use Rattle.metric.specs.Channels.{Asked}
@@ -9,8 +9,8 @@ use Rattle.refine.specs.Steps.{State, Next, done, halt, on, Move, Runs}
 use Rattle.engine.specs.declared.records.Neighbor.{Neighbor}
 use Rattle.engine.specs.declared.records.Candidate.{Candidate}
 use Rattle.engine.specs.declared.records.Progress.{Progress}
-use Rattle.engine.specs.declared.records.Event.{Event}
-use Rattle.engine.specs.declared.records.Event.TheVariants.{Finished, Stopped, Continued}
+use Rattle.engine.specs.declared.records.End.{End}
+use Rattle.engine.specs.declared.records.End.TheVariants.{Finished, Stopped}
 use Rattle.engine.specs.declared.records.Turn.{Turn}
 use Rattle.engine.specs.declared.records.Turn.TheVariants.{Finish, Name, Stop, Measure}
 use Rattle.engine.specs.Tables.{Tables}
@@ -62,10 +62,14 @@ pub record Goes (t : Tables) (q : Question) (s : State ℕ) (old : List Neighbor
   pub asks : (c : ℕ) (x y : List ℕ) → asked' c x y → asked c x y ⊎ Measured t q next c x y
   pub less : left t.channels xs' p' < left t.channels xs p
 
-abbrev pub Steps : Event → (t : Tables) (q : Question) (s : State ℕ) (old : List Neighbor) (xs xs' : List Candidate) (hs hs' : List Neighbor) (p p' : Progress) (asked asked' : Asked) → Type 0
-Steps Finished t q s old xs xs' hs hs' p p' asked asked' = Rests t q s done hs hs' p p' asked asked'
-Steps Stopped t q s old xs xs' hs hs' p p' asked asked' = Rests t q s halt hs hs' p p' asked asked'
-Steps Continued t q s old xs xs' hs hs' p p' asked asked' = Goes t q s old xs xs' hs' p p' asked asked'
+abbrev pub Steps : Option End → (t : Tables) (q : Question) (s : State ℕ) (old : List Neighbor) (xs xs' : List Candidate) (hs hs' : List Neighbor) (p p' : Progress) (asked asked' : Asked) → Type 0
+Steps (Some Finished) t q s old xs xs' hs hs' p p' asked asked' = Rests t q s done hs hs' p p' asked asked'
+Steps (Some Stopped) t q s old xs xs' hs hs' p p' asked asked' = Rests t q s halt hs hs' p p' asked asked'
+Steps None t q s old xs xs' hs hs' p p' asked asked' = Goes t q s old xs xs' hs' p p' asked asked'
+
+abbrev pub is_finished : End → Bool
+is_finished Finished = true
+is_finished Stopped = false
 
 -- a run from s has ended, complete or not, with these hits and this progress
 pub record Ends (t : Tables) (q : Question) (s : State ℕ) (complete : Bool) (old hs' : List Neighbor) (p' : Progress) (asked asked' : Asked) : Type 0 where

@@ -1,39 +1,20 @@
 //! The weighted bounds of a slot.
 ghost use Rattle.std.specs.Prelude.{◌≡◌, ℕ, ◌-◌, ◌*◌, ◌<◌, ◌≤◌, length, slice_index};
-ghost use Rattle.engine.specs.Tables.{slot_family};
+ghost use Rattle.engine.specs.Outcomes.{posed, family_of};
 ghost use Rattle.engine.specs.Slots.{weighted_lower, weighted_upper, Filled, Weighable, Unmeasured};
 
 use crate::gaps::rank;
-use crate::records::Candidate;
+use crate::records::{Candidate, Question};
 use crate::source::Source;
 use aggregate::{Aggregate, Weighted};
+use std::array;
 
 // A number under a weight.
 pub(crate) fn scale(weight: u8, x: u16) -> Weighted
     ensures value { result ≡ weight * x }
     ensures small { result ≤ 16711425 }
 {
-    weight as Weighted * x as Weighted
-}
-
-// The weighted bounds of a slot's distance in channel c, lower and upper.
-fn weighted<M, S: Source<M>>(
-    source: &S,
-    meter: &M,
-    weights: &[u8],
-    slot: usize,
-    c: usize,
-) -> (Weighted, Weighted)
-    requires ready { S.ready source.now meter.now }
-    requires slot { slot < (S.tables source.now meter.now).slots }
-    requires channel { c < (S.tables source.now meter.now).channels }
-    requires weights { length weights.now ≡ (S.tables source.now meter.now).channels }
-    ensures lower { result.0 ≡ weighted_lower (S.tables source.now meter.now) weights.now slot c }
-    ensures upper { result.1 ≡ weighted_upper (S.tables source.now meter.now) weights.now slot c }
-    ensures small { (result.0 ≤ 16711425) × (result.1 ≤ 16711425) }
-{
-    let (lower, upper) = source.bounds(meter, slot, c);
-    (scale(weights[c], lower), scale(weights[c], upper))
+    Weighted::from(weight) * Weighted::from(x)
 }
 
 // Writes a slot's weighted bounds to the fronts of `lowers` and `uppers`, in channel order.
@@ -53,10 +34,10 @@ pub(crate) fn weigh<M, S: Source<M>>(
     ensures lowers { Filled (weighted_lower (S.tables source.now meter.now) weights.now slot) (length weights.now) lowers.new }
     ensures uppers { Filled (weighted_upper (S.tables source.now meter.now) weights.now slot) (length weights.now) uppers.new }
 {
-    for c in 0..weights.len() {
-        let (lower, upper) = weighted(source, meter, weights, slot, c);
-        lowers[c] = lower;
-        uppers[c] = upper;
+    for (c, weight) in weights.iter().enumerate() {
+        let (lower, upper) = source.bounds(meter, slot, c);
+        lowers[c] = scale(*weight, lower);
+        uppers[c] = scale(*weight, upper);
     }
 }
 
@@ -64,41 +45,38 @@ pub(crate) fn weigh<M, S: Source<M>>(
 pub(crate) fn extremes<M, S: Source<M>, A: Aggregate>(
     source: &S,
     meter: &M,
-    aggregate: &A,
-    weights: &[u8],
+    question: &Question<A>,
     slot: usize,
 ) -> (Weighted, Weighted)
     requires ready { S.ready source.now meter.now }
     requires slot { slot < (S.tables source.now meter.now).slots }
-    requires weighable { Weighable (S.tables source.now meter.now) weights.now }
-    ensures lower { result.0 ≡ (slot_family (S.tables source.now meter.now) weights.now (A.Aggregate.meaning aggregate.now)).bound slot 0 }
-    ensures upper { result.1 ≡ (slot_family (S.tables source.now meter.now) weights.now (A.Aggregate.meaning aggregate.now)).upper slot }
+    requires weighable { Weighable (S.tables source.now meter.now) question.now.weights.now }
+    ensures lower { result.0 ≡ (family_of (S.tables source.now meter.now) (posed A.Aggregate.meaning question.now)).bound slot 0 }
+    ensures upper { result.1 ≡ (family_of (S.tables source.now meter.now) (posed A.Aggregate.meaning question.now)).upper slot }
 {
     let mut lowers: [Weighted; 8] = [0; 8];
     let mut uppers: [Weighted; 8] = [0; 8];
-    weigh(source, meter, weights, slot, &mut lowers, &mut uppers);
-    let channels = weights.len();
+    weigh(
+        source,
+        meter,
+        question.weights,
+        slot,
+        &mut lowers,
+        &mut uppers,
+    );
+    let channels = question.weights.len();
     (
-        aggregate.combine(&lowers[0..channels]),
-        aggregate.combine(&uppers[0..channels]),
+        question.aggregate.combine(&lowers[..channels]),
+        question.aggregate.combine(&uppers[..channels]),
     )
 }
 
-// What is unknown between two bounds; nothing where the lower is above.
-fn gap(lower: Weighted, upper: Weighted) -> Weighted
-    ensures { result ≡ upper - lower }
+// What is unknown between lower and upper bounds; nothing where the lower is above.
+fn gaps_between(lowers: &[Weighted; 8], uppers: &[Weighted; 8]) -> [Weighted; 8]
+    ensures long { length result ≡ 8 }
+    ensures gaps { (c : ℕ) → c < 8 → slice_index result c ≡ slice_index uppers.now c - slice_index lowers.now c }
 {
-    upper.saturating_sub(lower)
-}
-
-// Takes the lower bounds from the upper bounds, which leaves the gaps.
-fn narrow(lowers: &[Weighted], uppers: &mut [Weighted])
-    requires { length lowers.now ≤ length uppers.old }
-    ensures { (c : ℕ) → c < length lowers.now → slice_index uppers.new c ≡ slice_index uppers.old c - slice_index lowers.now c }
-{
-    for c in 0..lowers.len() {
-        uppers[c] = gap(lowers[c], uppers[c]);
-    }
+    array::from_fn(|c| uppers[c].saturating_sub(lowers[c]))
 }
 
 // A candidate for a slot, of which nothing is measured.
@@ -116,12 +94,12 @@ pub(crate) fn unmeasured<M, S: Source<M>>(
     ensures { Unmeasured (S.tables source.now meter.now) weights.now slot bound result }
 {
     let mut lowers: [Weighted; 8] = [0; 8];
-    let mut gaps: [Weighted; 8] = [0; 8];
-    weigh(source, meter, weights, slot, &mut lowers, &mut gaps);
-    narrow(&lowers, &mut gaps);
+    let mut uppers: [Weighted; 8] = [0; 8];
+    weigh(source, meter, weights, slot, &mut lowers, &mut uppers);
+    let gaps = gaps_between(&lowers, &uppers);
     let mut order: [u8; 8] = [0; 8];
     let channels = weights.len();
-    rank(&gaps[0..channels], &mut order);
+    rank(&gaps[..channels], &mut order);
     Candidate {
         bound,
         accession: source.number(meter, slot),

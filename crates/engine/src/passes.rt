@@ -5,13 +5,13 @@ ghost use Rattle.queue.specs.Heaps.{Pushed};
 ghost use Rattle.queue.specs.Selection.{Offered};
 ghost use Rattle.refine.specs.Chains.{threshold};
 ghost use Rattle.engine.specs.declared.records.Candidate.{Candidate};
-ghost use Rattle.engine.specs.Tables.{slot_family};
+ghost use Rattle.engine.specs.Outcomes.{posed, family_of};
 ghost use Rattle.engine.specs.Kinds.{ByBound};
 ghost use Rattle.engine.specs.Slots.{Weighable, Unmeasured};
 ghost use Rattle.engine.specs.Passes.{plain, passes, bound_at, FirstBounds, KeptWhere, Admits};
 
 use crate::bounds::{extremes, unmeasured};
-use crate::records::Candidate;
+use crate::records::{Candidate, Question};
 use crate::source::Source;
 use aggregate::{Aggregate, Weighted};
 use queue::rank::Upper;
@@ -23,33 +23,28 @@ fn offer_one(uppers: &mut [Upper], len: usize, k: usize, x: Weighted) -> usize
     ensures room { k ≤ length uppers.old → Offered k len x uppers.old result uppers.new }
     ensures none { length uppers.old < k → result ≡ len }
 {
-    match select::offer(uppers, len, k, x) {
-        Some(more) => more,
-        None => len,
-    }
+    select::offer(uppers, len, k, x).unwrap_or(len)
 }
 
 // Writes the first bound of each slot to its candidate, keeps the k least upper bounds, and says how many are kept.
 fn survey<M, S: Source<M>, A: Aggregate>(
     source: &S,
     meter: &M,
-    aggregate: &A,
-    weights: &[u8],
-    k: usize,
+    question: &Question<A>,
     candidates: &mut [Candidate],
     uppers: &mut [Upper],
 ) -> usize
     requires ready { S.ready source.now meter.now }
-    requires weighable { Weighable (S.tables source.now meter.now) weights.now }
+    requires weighable { Weighable (S.tables source.now meter.now) question.now.weights.now }
     requires room { (S.tables source.now meter.now).slots ≤ length candidates.old }
-    ensures bounds { FirstBounds (slot_family (S.tables source.now meter.now) weights.now (A.Aggregate.meaning aggregate.now)) (S.tables source.now meter.now).slots candidates.new }
-    ensures kept { KeptWhere k result (map (slot_family (S.tables source.now meter.now) weights.now (A.Aggregate.meaning aggregate.now)).upper (range_with_len 0 (S.tables source.now meter.now).slots)) uppers.old uppers.new }
+    ensures bounds { FirstBounds (family_of (S.tables source.now meter.now) (posed A.Aggregate.meaning question.now)) (S.tables source.now meter.now).slots candidates.new }
+    ensures kept { KeptWhere question.now.k result (map (family_of (S.tables source.now meter.now) (posed A.Aggregate.meaning question.now)).upper (range_with_len 0 (S.tables source.now meter.now).slots)) uppers.old uppers.new }
 {
     let mut len: usize = 0;
     for slot in 0..source.slots(meter) {
-        let (lower, upper) = extremes(source, meter, aggregate, weights, slot);
+        let (lower, upper) = extremes(source, meter, question, slot);
         candidates[slot].bound = lower;
-        len = offer_one(uppers, len, k, upper);
+        len = offer_one(uppers, len, question.k, upper);
     }
     len
 }
@@ -58,32 +53,27 @@ fn survey<M, S: Source<M>, A: Aggregate>(
 pub(crate) fn limit<M, S: Source<M>, A: Aggregate>(
     source: &S,
     meter: &M,
-    aggregate: &A,
-    weights: &[u8],
-    k: usize,
+    question: &Question<A>,
     candidates: &mut [Candidate],
     uppers: &mut [Upper],
 ) -> Option<Weighted>
     requires ready { S.ready source.now meter.now }
-    requires weighable { Weighable (S.tables source.now meter.now) weights.now }
-    requires wanted { 1 ≤ k }
+    requires weighable { Weighable (S.tables source.now meter.now) question.now.weights.now }
+    requires wanted { 1 ≤ question.now.k }
     requires room { (S.tables source.now meter.now).slots ≤ length candidates.old }
     requires scratch { (S.tables source.now meter.now).slots ≤ length uppers.old }
-    ensures bounds { FirstBounds (slot_family (S.tables source.now meter.now) weights.now (A.Aggregate.meaning aggregate.now)) (S.tables source.now meter.now).slots candidates.new }
-    ensures value { plain result ≡ threshold (slot_family (S.tables source.now meter.now) weights.now (A.Aggregate.meaning aggregate.now)) k (range_with_len 0 (S.tables source.now meter.now).slots) }
+    ensures bounds { FirstBounds (family_of (S.tables source.now meter.now) (posed A.Aggregate.meaning question.now)) (S.tables source.now meter.now).slots candidates.new }
+    ensures value { plain result ≡ threshold (family_of (S.tables source.now meter.now) (posed A.Aggregate.meaning question.now)) question.now.k (range_with_len 0 (S.tables source.now meter.now).slots) }
 {
-    let len = survey(source, meter, aggregate, weights, k, candidates, uppers);
-    select::threshold(uppers, len, k)
+    let len = survey(source, meter, question, candidates, uppers);
+    select::threshold(uppers, len, question.k)
 }
 
 // Whether a first bound is above neither the radius nor the threshold.
 fn admissible(bound: Weighted, radius: Weighted, limit: Option<Weighted>) -> bool
     ensures { result ≡ passes radius (plain limit) bound }
 {
-    match limit {
-        Some(most) => bound <= radius && bound <= most,
-        None => bound <= radius,
-    }
+    bound <= radius && limit.is_none_or(|most| bound <= most)
 }
 
 // Adds a slot's candidate to those in the first `len`.

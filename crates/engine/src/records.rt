@@ -7,15 +7,34 @@ ghost use Rattle.std.proofs.Common.{rules};
 use aggregate::Weighted;
 use queue::rank::Ranked;
 
+/// What is asked of the slots: a weight for each channel, how the weighted distances are aggregated, how many neighbours are wanted, how
+/// far away at most, and how many channels may be measured.
+#[derive_where(Clone, Copy)]
+pub struct Question<'a, A> {
+    pub weights: &'a [u8],
+    pub aggregate: &'a A,
+    pub k: usize,
+    pub radius: u32,
+    pub budget: u32,
+}
+
 /// A hit: an accession number and its aggregated distance.
-#[derive(Clone, Copy)]
+#[derive(Clone, Copy, PartialEq, Eq, Debug)]
 pub struct Neighbor {
     pub accession: u16,
     pub distance: Weighted,
 }
 
+impl Neighbor {
+    /// What stands in a list of hits before there are any.
+    pub const BLANK: Neighbor = Neighbor {
+        accession: 0,
+        distance: 0,
+    };
+}
+
 /// What a search comes to: whether it is complete, and how many patches it named, channels it measured and patches it admitted.
-#[derive(Clone, Copy)]
+#[derive(Clone, Copy, PartialEq, Eq, Debug)]
 pub struct Answer {
     pub complete: bool,
     pub named: u16,
@@ -26,7 +45,7 @@ pub struct Answer {
 /// An admitted patch that is not named yet: its bound and accession number, by which it is ordered; its slot; the order of its channels;
 /// its weighted numbers; and how many of its channels are measured. The one odd byte stands last, so that the rest is copied in aligned
 /// parts.
-#[derive(Clone, Copy)]
+#[derive(Clone, Copy, PartialEq, Eq, Debug)]
 pub struct Candidate {
     pub bound: Weighted,
     pub accession: u16,
@@ -34,6 +53,18 @@ pub struct Candidate {
     pub order: [u8; 8],
     pub entries: [Weighted; 8],
     pub measured: u8,
+}
+
+impl Candidate {
+    /// What the scratch is left with.
+    pub const BLANK: Candidate = Candidate {
+        bound: 0,
+        accession: 0,
+        slot: 0,
+        order: [0; 8],
+        entries: [0; 8],
+        measured: 0,
+    };
 }
 
 /// By bound, and equal bounds by accession number.
@@ -53,32 +84,27 @@ impl Ranked for Candidate {
     ghost keyed = { Prim.search rules };
 
     fn precedes(&self, other: &Self) -> bool {
-        if self.bound == other.bound {
-            self.accession <= other.accession
-        } else {
-            self.bound < other.bound
-        }
+        (self.bound, self.accession) <= (other.bound, other.accession)
     }
 }
 
 /// How far a search has come: how many candidates wait, how many patches are named, and how many channels are measured.
-#[derive(Clone, Copy)]
+#[derive(Clone, Copy, PartialEq, Eq, Debug)]
 pub struct Progress {
     pub waiting: usize,
     pub named: usize,
     pub measured: u32,
 }
 
-/// What a step comes to.
-#[derive(Clone, Copy)]
-pub enum Event {
+/// How a search ends: with nothing left to name, or with the budget spent.
+#[derive(Clone, Copy, PartialEq, Eq, Debug)]
+pub enum End {
     Finished,
     Stopped,
-    Continued,
 }
 
 /// What is to be done with the least candidate.
-#[derive(Clone, Copy)]
+#[derive(Clone, Copy, PartialEq, Eq, Debug)]
 pub enum Turn {
     Finish,
     Name,

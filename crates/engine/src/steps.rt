@@ -7,11 +7,11 @@ ghost use Rattle.engine.specs.Kinds.{ByBound};
 ghost use Rattle.engine.specs.Slots.{Weighable, Sound};
 ghost use Rattle.refine.specs.Steps.{State};
 ghost use Rattle.engine.specs.declared.records.Neighbor.{Neighbor};
-ghost use Rattle.engine.specs.Outcomes.{asking};
-ghost use Rattle.engine.specs.Turns.{Turns, Advanced, Stands, Steps, Ends};
+ghost use Rattle.engine.specs.Outcomes.{posed};
+ghost use Rattle.engine.specs.Turns.{is_finished, Turns, Advanced, Stands, Steps, Ends};
 
 use crate::bounds::scale;
-use crate::records::{Candidate, Event, Neighbor, Progress, Turn};
+use crate::records::{Candidate, End, Neighbor, Progress, Question, Turn};
 use crate::source::Source;
 use aggregate::{Aggregate, Weighted};
 use queue::heap;
@@ -22,7 +22,7 @@ fn turn(top: &Candidate, channels: usize, radius: Weighted, budget: u32, measure
 {
     if top.bound > radius {
         Turn::Finish
-    } else if top.measured as usize == channels {
+    } else if usize::from(top.measured) == channels {
         Turn::Name
     } else if measured >= budget {
         Turn::Stop
@@ -53,7 +53,7 @@ fn name(
     Progress {
         waiting: at.waiting - 1,
         named: at.named + 1,
-        measured: at.measured,
+        ..at
     }
 }
 
@@ -62,36 +62,32 @@ fn next_channel(x: &Candidate) -> usize
     requires { x.now.measured < length x.now.order }
     ensures { result ≡ slice_index x.now.order x.now.measured }
 {
-    x.order[x.measured as usize] as usize
+    usize::from(x.order[usize::from(x.measured)])
 }
 
 // Measures the next channel of a candidate.
 fn advance<M, S: Source<M>, A: Aggregate>(
     source: &S,
     meter: &mut M,
-    aggregate: &A,
-    weights: &[u8],
+    question: &Question<A>,
     top: Candidate,
 ) -> Candidate
     requires ready { S.ready source.now meter.old }
-    requires weighable { Weighable (S.tables source.now meter.old) weights.now }
-    requires sound { Sound (S.tables source.now meter.old) weights.now top }
+    requires weighable { Weighable (S.tables source.now meter.old) question.now.weights.now }
+    requires sound { Sound (S.tables source.now meter.old) question.now.weights.now top }
     requires more { top.measured < (S.tables source.now meter.old).channels }
-    ensures next { Advanced (S.tables source.now meter.old) weights.now (A.Aggregate.meaning aggregate.now) top result }
+    ensures next { Advanced (S.tables source.now meter.old) question.now.weights.now (A.Aggregate.meaning question.now.aggregate.now) top result }
     ensures kept { S.tables source.now meter.new ≡ S.tables source.now meter.old }
     ensures same { S.metrics source.now meter.new ≡ S.metrics source.now meter.old }
     ensures ready { S.ready source.now meter.new }
     ensures adds { AddsAt (S.asked source.now meter.old) (S.asked source.now meter.new) (slice_index top.order top.measured) ((S.tables source.now meter.old).left top.slot (slice_index top.order top.measured)) ((S.tables source.now meter.old).right top.slot (slice_index top.order top.measured)) }
 {
     let c = next_channel(&top);
-    let distance = source.distance(meter, top.slot as usize, c);
-    let channels = weights.len();
-    let mut entries = top.entries;
-    entries[c] = scale(weights[c], distance);
-    let bound = aggregate.combine(&entries[0..channels]);
+    let distance = source.distance(meter, usize::from(top.slot), c);
     let mut next = top;
-    next.entries = entries;
-    next.bound = bound;
+    next.entries[c] = scale(question.weights[c], distance);
+    let channels = question.weights.len();
+    next.bound = question.aggregate.combine(&next.entries[..channels]);
     next.measured += 1;
     next
 }
@@ -100,107 +96,99 @@ fn advance<M, S: Source<M>, A: Aggregate>(
 fn measure<M, S: Source<M>, A: Aggregate>(
     source: &S,
     meter: &mut M,
-    aggregate: &A,
-    weights: &[u8],
+    question: &Question<A>,
     candidates: &mut [Candidate],
     at: Progress,
     top: Candidate,
 ) -> Progress
     requires ready { S.ready source.now meter.old }
-    requires weighable { Weighable (S.tables source.now meter.old) weights.now }
-    requires sound { Sound (S.tables source.now meter.old) weights.now top }
+    requires weighable { Weighable (S.tables source.now meter.old) question.now.weights.now }
+    requires sound { Sound (S.tables source.now meter.old) question.now.weights.now top }
     requires more { top.measured < (S.tables source.now meter.old).channels }
     requires some { 0 < at.waiting }
     requires within { at.waiting ≤ length candidates.old }
     requires count { at.measured < 4294967295 }
-    ensures replaced { (x : Candidate) × (y : Candidate) × Advanced (S.tables source.now meter.old) weights.now (A.Aggregate.meaning aggregate.now) top x × Replaced ByBound at.waiting x y candidates.old candidates.new }
+    ensures replaced { (x : Candidate) × (y : Candidate) × Advanced (S.tables source.now meter.old) question.now.weights.now (A.Aggregate.meaning question.now.aggregate.now) top x × Replaced ByBound at.waiting x y candidates.old candidates.new }
     ensures progress { result ≡ record { waiting = at.waiting; named = at.named; measured = at.measured + 1 } }
     ensures kept { S.tables source.now meter.new ≡ S.tables source.now meter.old }
     ensures same { S.metrics source.now meter.new ≡ S.metrics source.now meter.old }
     ensures ready { S.ready source.now meter.new }
     ensures adds { AddsAt (S.asked source.now meter.old) (S.asked source.now meter.new) (slice_index top.order top.measured) ((S.tables source.now meter.old).left top.slot (slice_index top.order top.measured)) ((S.tables source.now meter.old).right top.slot (slice_index top.order top.measured)) }
 {
-    let next = advance(source, meter, aggregate, weights, top);
+    let next = advance(source, meter, question, top);
     let _before = heap::replace_top(candidates, at.waiting, next);
     Progress {
-        waiting: at.waiting,
-        named: at.named,
         measured: at.measured + 1,
+        ..at
     }
 }
 
-// One step.
+// One step: the end, where it comes to one.
 pub(crate) fn step<M, S: Source<M>, A: Aggregate>(
     source: &S,
     meter: &mut M,
-    aggregate: &A,
-    weights: &[u8],
-    k: usize,
-    radius: Weighted,
-    budget: u32,
+    question: &Question<A>,
     candidates: &mut [Candidate],
     hits: &mut [Neighbor],
     progress: &mut Progress,
-) -> Event
+) -> Option<End>
     requires ready { S.ready source.now meter.old }
-    requires weighable { Weighable (S.tables source.now meter.old) weights.now }
-    requires room { min k (S.tables source.now meter.old).slots ≤ length hits.old }
-    requires stands { (old : List Neighbor) × (s : State ℕ) × Stands (S.tables source.now meter.old) (asking weights.now (A.Aggregate.meaning aggregate.now) k radius budget) old candidates.old hits.old progress.old s }
-    ensures steps { (old : List Neighbor) (s : State ℕ) → Stands (S.tables source.now meter.old) (asking weights.now (A.Aggregate.meaning aggregate.now) k radius budget) old candidates.old hits.old progress.old s → Steps result (S.tables source.now meter.old) (asking weights.now (A.Aggregate.meaning aggregate.now) k radius budget) s old candidates.old candidates.new hits.old hits.new progress.old progress.new (S.asked source.now meter.old) (S.asked source.now meter.new) }
+    requires weighable { Weighable (S.tables source.now meter.old) question.now.weights.now }
+    requires room { min question.now.k (S.tables source.now meter.old).slots ≤ length hits.old }
+    requires stands { (old : List Neighbor) × (s : State ℕ) × Stands (S.tables source.now meter.old) (posed A.Aggregate.meaning question.now) old candidates.old hits.old progress.old s }
+    ensures steps { (old : List Neighbor) (s : State ℕ) → Stands (S.tables source.now meter.old) (posed A.Aggregate.meaning question.now) old candidates.old hits.old progress.old s → Steps result (S.tables source.now meter.old) (posed A.Aggregate.meaning question.now) s old candidates.old candidates.new hits.old hits.new progress.old progress.new (S.asked source.now meter.old) (S.asked source.now meter.new) }
     ensures kept { S.tables source.now meter.new ≡ S.tables source.now meter.old }
     ensures same { S.metrics source.now meter.new ≡ S.metrics source.now meter.old }
     ensures ready { S.ready source.now meter.new }
 {
     let at = *progress;
-    if at.named >= k {
-        return Event::Finished;
+    if at.named >= question.k {
+        return Some(End::Finished);
     }
     let Some(top) = heap::peek(candidates, at.waiting) else {
-        return Event::Finished;
+        return Some(End::Finished);
     };
-    match turn(&top, weights.len(), radius, budget, at.measured) {
-        Turn::Finish => Event::Finished,
+    match turn(
+        &top,
+        question.weights.len(),
+        question.radius,
+        question.budget,
+        at.measured,
+    ) {
+        Turn::Finish => Some(End::Finished),
         Turn::Name => {
             *progress = name(candidates, hits, at, top);
-            Event::Continued
+            None
         }
-        Turn::Stop => Event::Stopped,
+        Turn::Stop => Some(End::Stopped),
         Turn::Measure => {
-            *progress = measure(source, meter, aggregate, weights, candidates, at, top);
-            Event::Continued
+            *progress = measure(source, meter, question, candidates, at, top);
+            None
         }
     }
 }
 
-// Step after step to the end: whether it has finished.
+// Step after step to the end.
 pub(crate) fn run<M, S: Source<M>, A: Aggregate>(
     source: &S,
     meter: &mut M,
-    aggregate: &A,
-    weights: &[u8],
-    k: usize,
-    radius: Weighted,
-    budget: u32,
+    question: &Question<A>,
     candidates: &mut [Candidate],
     hits: &mut [Neighbor],
     progress: &mut Progress,
-) -> bool
+) -> End
     requires ready { S.ready source.now meter.old }
-    requires weighable { Weighable (S.tables source.now meter.old) weights.now }
-    requires room { min k (S.tables source.now meter.old).slots ≤ length hits.old }
-    requires stands { (old : List Neighbor) × (s : State ℕ) × Stands (S.tables source.now meter.old) (asking weights.now (A.Aggregate.meaning aggregate.now) k radius budget) old candidates.old hits.old progress.old s }
-    ensures ends { (old : List Neighbor) (s : State ℕ) → Stands (S.tables source.now meter.old) (asking weights.now (A.Aggregate.meaning aggregate.now) k radius budget) old candidates.old hits.old progress.old s → Ends (S.tables source.now meter.old) (asking weights.now (A.Aggregate.meaning aggregate.now) k radius budget) s result old hits.new progress.new (S.asked source.now meter.old) (S.asked source.now meter.new) }
+    requires weighable { Weighable (S.tables source.now meter.old) question.now.weights.now }
+    requires room { min question.now.k (S.tables source.now meter.old).slots ≤ length hits.old }
+    requires stands { (old : List Neighbor) × (s : State ℕ) × Stands (S.tables source.now meter.old) (posed A.Aggregate.meaning question.now) old candidates.old hits.old progress.old s }
+    ensures ends { (old : List Neighbor) (s : State ℕ) → Stands (S.tables source.now meter.old) (posed A.Aggregate.meaning question.now) old candidates.old hits.old progress.old s → Ends (S.tables source.now meter.old) (posed A.Aggregate.meaning question.now) s (is_finished result) old hits.new progress.new (S.asked source.now meter.old) (S.asked source.now meter.new) }
     ensures kept { S.tables source.now meter.new ≡ S.tables source.now meter.old }
     ensures same { S.metrics source.now meter.new ≡ S.metrics source.now meter.old }
     ensures ready { S.ready source.now meter.new }
 {
     'steps: loop {
-        match step(
-            source, meter, aggregate, weights, k, radius, budget, candidates, hits, progress,
-        ) {
-            Event::Finished => return true,
-            Event::Stopped => return false,
-            Event::Continued => {}
+        if let Some(end) = step(source, meter, question, candidates, hits, progress) {
+            return end;
         }
     }
 }

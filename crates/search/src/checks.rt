@@ -1,5 +1,5 @@
 //! What a search checks before it begins.
-ghost use Rattle.std.specs.Prelude.{◌≡◌, length};
+ghost use Rattle.std.specs.Prelude.{◌≡◌, ℕ, ◌<◌, length, slice_index};
 ghost use Rattle.patch.specs.Patches.{few};
 ghost use Rattle.refusal.specs.Refusals.{answered};
 ghost use Rattle.search.specs.Refusals.{handed, room_refusal, question_refusal, Opens};
@@ -21,7 +21,7 @@ pub(crate) struct Sizes {
     pub(crate) uppers: usize,
 }
 
-// These lengths.
+// These lengths. That rows and weights are bytes is said here, since a caller that has them in a struct does not know it.
 pub(crate) fn sizes_of(
     rows: &[u8],
     weights: &[u8],
@@ -29,7 +29,9 @@ pub(crate) fn sizes_of(
     candidates: &[Candidate],
     uppers: &[Upper],
 ) -> Sizes
-    ensures { result ≡ handed (length rows.now) (length weights.now) (length hits.now) (length candidates.now) (length uppers.now) }
+    ensures lengths { result ≡ handed (length rows.now) (length weights.now) (length hits.now) (length candidates.now) (length uppers.now) }
+    ensures rows { (n : ℕ) → slice_index rows.now n < 256 }
+    ensures weights { (n : ℕ) → slice_index weights.now n < 256 }
 {
     Sizes {
         rows: rows.len(),
@@ -44,10 +46,10 @@ pub(crate) fn sizes_of(
 fn check_room(held: u16, k: u16, sizes: Sizes) -> Result<(), Refusal>
     ensures { result ≡ answered (room_refusal held k sizes) tt }
 {
-    if sizes.hits < k.min(held) as usize {
+    if sizes.hits < usize::from(k.min(held)) {
         return Err(Refusal::HitsTooShort);
     }
-    if sizes.candidates < held as usize || sizes.uppers < held as usize {
+    if sizes.candidates < usize::from(held) || sizes.uppers < usize::from(held) {
         return Err(Refusal::ScratchTooShort);
     }
     Ok(())

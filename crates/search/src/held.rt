@@ -6,21 +6,17 @@ ghost use Rattle.index.specs.Layouts.{Sound, number_at, distance_at};
 ghost use Rattle.promise.specs.Held.{held_tables};
 ghost use Rattle.search.specs.Sources.{Prepared};
 
-use crate::reads::slot_distance;
+use crate::reads::View;
 use crate::walk::bounds;
 use engine::source::Source;
-use index::counts::Counts;
 use index::layout::Layout;
 use metric::channels::ChannelSet;
 
-// The store and the query, with what a search asks of a channel for every slot: the distances from the query to the pivots, and the
-// greatest distance.
+// What a search reads, with what it asks of a channel for every slot: the distances from the query to the pivots, and the greatest
+// distance.
 #[derive(Clone, Copy)]
 pub(crate) struct Held<'a> {
-    pub(crate) store: &'a [u8],
-    pub(crate) query: &'a [u8],
-    pub(crate) layout: Layout,
-    pub(crate) counts: Counts,
+    pub(crate) view: View<'a>,
     pub(crate) near: [[u16; 8]; 8],
     pub(crate) tops: [u16; 8],
 }
@@ -47,7 +43,7 @@ fn distances_of<'a>(store: &'a [u8], l: &Layout, slot: usize, c: usize) -> &'a [
 }
 
 impl<'a, S: ChannelSet> Source<S> for Held<'a> {
-    ghost tables = { λ h s. held_tables (few (S.ChannelSet.models s)) h.counts h.store.now h.query.now };
+    ghost tables = { λ h s. held_tables (few (S.ChannelSet.models s)) h.view.counts h.view.store.now h.view.query.now };
 
     ghost asked = { λ _ s. S.ChannelSet.asked s };
 
@@ -56,29 +52,21 @@ impl<'a, S: ChannelSet> Source<S> for Held<'a> {
     ghost metrics = { λ _ s. S.ChannelSet.models s };
 
     fn slots(&self, _meter: &S) -> usize {
-        self.counts.held as usize
+        usize::from(self.view.counts.held)
     }
 
     fn number(&self, _meter: &S, slot: usize) -> u16 {
-        number_of(self.store, slot)
+        number_of(self.view.store, slot)
     }
 
     fn bounds(&self, _meter: &S, slot: usize, c: usize) -> (u16, u16) {
-        let pivots = self.counts.pivots_in(c);
+        let pivots = self.view.counts.pivots_in(c);
         let near = self.near[c];
-        let far = distances_of(self.store, &self.layout, slot, c);
+        let far = distances_of(self.view.store, &self.view.layout, slot, c);
         bounds(self.tops[c], &near, far, pivots)
     }
 
     fn distance(&self, meter: &mut S, slot: usize, c: usize) -> u16 {
-        slot_distance(
-            meter,
-            &self.layout,
-            &self.counts,
-            self.store,
-            self.query,
-            slot,
-            c,
-        )
+        self.view.slot_distance(meter, slot, c)
     }
 }

@@ -10,10 +10,11 @@ ghost use Rattle.search.specs.Promised.{question, Searched, Promised};
 
 use aggregate::Aggregate;
 use checks::{open, sizes_of};
-use engine::records::{Answer, Candidate, Neighbor};
+use engine::records::{Answer, Candidate, Neighbor, Question};
 use index::pivot_index::PivotIndex;
 use metric::channels::ChannelSet;
 use queue::rank::Upper;
+use reads::View;
 use refusal::Refusal;
 use serve::serve;
 
@@ -63,21 +64,19 @@ pub fn nearest<S: ChannelSet, A: Aggregate>(
     ensures history { (cap : ℕ) (b : List ℕ) (h : List Call) → Holds (S.models index.old.set) index.old.counts store.now cap b h → Holds (S.models index.new.set) index.new.counts store.now cap b (searching ∷ h) }
 {
     let sizes = sizes_of(query.rows, query.weights, hits, candidates, uppers);
-    let l = open(index, store, query.k, sizes)?;
-    let counts = index.counts;
-    Ok(serve(
-        &mut index.set,
-        &l,
-        &counts,
+    let layout = open(index, store, query.k, sizes)?;
+    let view = View {
         store,
-        query.rows,
-        query.weights,
-        &query.aggregate,
-        query.k,
-        query.radius,
+        query: query.rows,
+        layout,
+        counts: index.counts,
+    };
+    let question = Question {
+        weights: query.weights,
+        aggregate: &query.aggregate,
+        k: usize::from(query.k),
+        radius: query.radius,
         budget,
-        hits,
-        candidates,
-        uppers,
-    ))
+    };
+    Ok(serve(&mut index.set, &view, &question, hits, candidates, uppers))
 }

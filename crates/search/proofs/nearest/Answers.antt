@@ -15,7 +15,7 @@ returns g c =
     let a = c.args in
     let s = c.serve in
     let e = s.ensures in
-    let o = c.in_ok-l.ensures in
+    let o = c.in_ok-layout.ensures in
     let x = a.index.now in
     let y = a.query.now in
     let ms = S.models x.set in
@@ -23,15 +23,15 @@ returns g c =
     let f = g.A.Aggregate.meaning y.aggregate in
     let q = question y.rows.now y.weights.now f y.k y.radius in
     let sizes = handed (length y.rows.now) (length y.weights.now) (length a.hits.now) (length a.candidates.now) (length a.uppers.now) in
-    let none = ap (λ (v : Sizes). search_refusal (few ms) x.counts b y.k v) (sym c.sizes_of-sizes.ensures) ∙ o.0 in
+    let none = ap (λ (v : Sizes). search_refusal (few ms) x.counts b y.k v) (sym c.sizes_of-sizes.ensures.lengths) ∙ o.0 in
     record {
       answer = sym none;
-      searched = e.searched;
+      searched = rw c.from.ensures at e.ran;
       within = ran_within (held_tables (few ms) x.counts b y.rows.now) (asking y.weights.now f y.k y.radius a.budget) s.result a.hits.now s.new.hits
-          (either (S.asked x.set) (NearAsks (few ms) x.counts b y.rows.now)) (S.asked s.new.set) e.searched;
+          (either (S.asked x.set) (NearAsks (few ms) x.counts b y.rows.now)) (S.asked s.new.set) (rw c.from.ensures at e.ran);
       promised = keeps ms x.counts b q a.budget sizes s.result a.hits.now s.new.hits (S.asked x.set) (S.asked s.new.set)
           (g.met.S.ChannelSet.some x.set) (g.met.S.ChannelSet.lawful x.set) (g.met.A.Aggregate.lawful y.aggregate) none refl refl
-          e.rows e.weights e.searched;
+          c.sizes_of-sizes.ensures.rows c.sizes_of-sizes.ensures.weights (rw c.from.ensures at e.ran);
       counts = refl;
       same = e.same;
       scratch = (e.candidates, e.uppers);

@@ -6,5 +6,5 @@ use Rattle.engine.proofs.passes.survey.Given as goal
 
 abbrev pub invariant-loop-slot : goal.invariant-loop-slot
 invariant-loop-slot g l =
-    let f = slot_family (g.S.Source.tables l.source l.meter) l.weights (g.A.Aggregate.meaning l.aggregate) in
-    FirstBounds f l.slot l.candidates × KeptWhere l.k l.len (map f.upper (range_with_len 0 l.slot)) l.initial.uppers l.uppers
+    let f = slot_family (g.S.Source.tables l.source l.meter) l.question.weights.now (g.A.Aggregate.meaning l.question.aggregate.now) in
+    FirstBounds f l.slot l.candidates × KeptWhere l.question.k l.len (map f.upper (range_with_len 0 l.slot)) l.initial.uppers l.uppers

@@ -1,7 +1,7 @@
 use Rattle.std.proofs.Common.{◌≡◌, ℕ, List}
 use Rattle.refine.specs.Steps.{State}
 use Rattle.engine.specs.declared.records.Neighbor.{Neighbor}
-use Rattle.engine.specs.Outcomes.{asking}
+use Rattle.engine.specs.Outcomes.{posed}
 use Rattle.engine.specs.Turns.{Stands, left}
 use Rattle.engine.proofs.Walks.{Reached}
 use Rattle.engine.proofs.steps.run.Given as goal
@@ -9,7 +9,7 @@ use Rattle.engine.proofs.steps.run.Given as goal
 abbrev pub invariant-steps : goal.invariant-steps
 invariant-steps g l =
     let t = g.S.Source.tables l.initial.source l.initial.meter in
-    let q = asking l.weights (g.A.Aggregate.meaning l.aggregate) l.k l.radius l.budget in
+    let q = posed g.A.Aggregate.meaning l.question in
     (g.S.Source.tables l.source l.meter ≡ t)
     × g.S.Source.ready l.source l.meter
     × ((old : List Neighbor) (s : State ℕ) → Stands t q old l.initial.candidates l.initial.hits l.initial.progress s

@@ -1,107 +1,67 @@
-use Rattle.std.proofs.Common.{◌<◌, length, sym, refl, ◌∙◌, arith}
-use Rattle.engine.specs.Outcomes.{asking}
+use Rattle.std.proofs.Common.{◌<◌, length, sym, ◌∙◌, arith}
+use Rattle.engine.specs.Outcomes.{posed}
 use Rattle.engine.proofs.Moves.{is_full, is_empty, is_dry, is_halted, is_named, is_measured, fine}
 use Rattle.engine.proofs.steps.step.Goals as goal
 
-pub returns-then-at-k : goal.returns-then-at-k
-returns-then-at-k g c =
-    let t = g.S.Source.tables c.args.source.now c.args.meter.now in
+pub returns-then-at-question-clause-steps : goal.returns-then-at-question-clause-steps
+returns-then-at-question-clause-steps g c =
     let a = c.args in
-    let q = asking a.weights.now (g.A.Aggregate.meaning a.aggregate.now) a.k a.radius a.budget in
-    record {
-      steps = λ old s st. record { move = is_full t q old a.candidates.now a.hits.now a.progress.now s st c.if-at-k.true; hits = refl; progress = refl; asks = λ k x y h. h };
-      kept = refl;
-      same = refl;
-      ready = c.requires.ready;
-    }
+    let S = g.S.Source in
+    λ old s st. is_full (S.tables a.source.now a.meter.now) (posed g.A.Aggregate.meaning a.question.now) old a.candidates.now a.hits.now a.progress.now s st (S.asked a.source.now a.meter.now) c.if-at-question.true
 
-pub returns-in_default : goal.returns-in_default
-returns-in_default g c =
-    let t = g.S.Source.tables c.args.source.now c.args.meter.now in
+pub returns-in_default-clause-steps : goal.returns-in_default-clause-steps
+returns-in_default-clause-steps g c =
     let a = c.args in
-    let q = asking a.weights.now (g.A.Aggregate.meaning a.aggregate.now) a.k a.radius a.budget in
-    record {
-      steps = λ old s st. record { move = is_empty t q old a.candidates.now a.hits.now a.progress.now s st c.in_default.ensures; hits = refl; progress = refl; asks = λ k x y h. h };
-      kept = refl;
-      same = refl;
-      ready = c.requires.ready;
-    }
+    let S = g.S.Source in
+    λ old s st. is_empty (S.tables a.source.now a.meter.now) (posed g.A.Aggregate.meaning a.question.now) old a.candidates.now a.hits.now a.progress.now s st (S.asked a.source.now a.meter.now) c.in_default.ensures
 
-pub measure-requires : goal.measure-requires
-measure-requires g c =
-    let t = g.S.Source.tables c.args.source.now c.args.meter.now in
+pub returns-in-Finish-clause-steps : goal.returns-in-Finish-clause-steps
+returns-in-Finish-clause-steps g c =
     let a = c.args in
-    let q = asking a.weights.now (g.A.Aggregate.meaning a.aggregate.now) a.k a.radius a.budget in
-    let st = c.requires.stands.2 in
-    let f = fine t q c.requires.stands.0 a.candidates.now a.hits.now a.progress.now c.requires.stands.1 st c.in-Some.top c.in-Some.ensures in
-    let m = c.in-Measure.ensures in
-    let w = c.requires.weighable.weighted in
-    record {
-      ready = c.requires.ready;
-      weighable = c.requires.weighable;
-      sound = f.sound;
-      more = (let n = f.sound.within in omega (arith, m.1));
-      some = c.in-Some.ensures.some;
-      within = st.within;
-      count = omega (arith, m.2, c.ranges.budget.fits);
-    }
+    let S = g.S.Source in
+    λ old s st. is_dry (S.tables a.source.now a.meter.now) (posed g.A.Aggregate.meaning a.question.now) old a.candidates.now a.hits.now a.progress.now s st c.in-Some.top c.in-Some.ensures (S.asked a.source.now a.meter.now) c.in-Finish.ensures
 
-pub returns-in-Finish : goal.returns-in-Finish
-returns-in-Finish g c =
-    let t = g.S.Source.tables c.args.source.now c.args.meter.now in
+pub returns-in-Stop-clause-steps : goal.returns-in-Stop-clause-steps
+returns-in-Stop-clause-steps g c =
     let a = c.args in
-    let q = asking a.weights.now (g.A.Aggregate.meaning a.aggregate.now) a.k a.radius a.budget in
-    record {
-      steps = λ old s st. record { move = is_dry t q old a.candidates.now a.hits.now a.progress.now s st c.in-Some.top c.in-Some.ensures c.in-Finish.ensures; hits = refl; progress = refl; asks = λ k x y h. h };
-      kept = refl;
-      same = refl;
-      ready = c.requires.ready;
-    }
+    let S = g.S.Source in
+    let m = c.in-Stop.ensures in
+    λ old s st. is_halted (S.tables a.source.now a.meter.now) (posed g.A.Aggregate.meaning a.question.now) old a.candidates.now a.hits.now a.progress.now s st c.in-Some.top c.in-Some.ensures c.if-at-question.false m.0 (S.asked a.source.now a.meter.now) (λ z. m.1 (z ∙ sym c.requires.weighable.weighted)) m.2
 
-pub returns-in-Name : goal.returns-in-Name
-returns-in-Name g c =
-    let t = g.S.Source.tables c.args.source.now c.args.meter.now in
+pub returns-in-Name-clause-steps : goal.returns-in-Name-clause-steps
+returns-in-Name-clause-steps g c =
     let a = c.args in
-    let q = asking a.weights.now (g.A.Aggregate.meaning a.aggregate.now) a.k a.radius a.budget in
-    let top = c.in-Some.top in
+    let S = g.S.Source in
     let n = c.name in
     let e = n.ensures in
     let m = c.in-Name.ensures in
-    let more : a.progress.now.named < a.k = c.if-at-k.false in
-    record {
-      steps = λ old s st.
-          (let room : a.progress.now.named < length a.hits.now = (let r = c.requires.room in let z = c.in-Some.ensures.some in let f = st.few in omega arith) in
-          is_named t q old a.candidates.now a.hits.now a.progress.now s st top c.in-Some.ensures more m.0 e.popped.0 n.new.candidates n.new.hits n.result (g.S.Source.asked a.source.now a.meter.now) room n.auto.candidates (m.1 ∙ c.requires.weighable.weighted) e.popped.1 e.hits e.progress);
-      kept = refl;
-      same = refl;
-      ready = c.requires.ready;
-    }
+    let more : a.progress.now.named < a.question.now.k = c.if-at-question.false in
+    λ old s st.
+    (let room : a.progress.now.named < length a.hits.now = (let r = c.requires.room in let z = c.in-Some.ensures.some in let f = st.few in omega arith) in
+    is_named (S.tables a.source.now a.meter.now) (posed g.A.Aggregate.meaning a.question.now) old a.candidates.now a.hits.now a.progress.now s st c.in-Some.top c.in-Some.ensures more m.0 e.popped.0 n.new.candidates n.new.hits n.result (S.asked a.source.now a.meter.now) room n.auto.candidates (m.1 ∙ c.requires.weighable.weighted) e.popped.1 e.hits e.progress)
 
-pub returns-in-Stop : goal.returns-in-Stop
-returns-in-Stop g c =
-    let t = g.S.Source.tables c.args.source.now c.args.meter.now in
+pub returns-in-Measure-clause-steps : goal.returns-in-Measure-clause-steps
+returns-in-Measure-clause-steps g c =
     let a = c.args in
-    let q = asking a.weights.now (g.A.Aggregate.meaning a.aggregate.now) a.k a.radius a.budget in
-    let m = c.in-Stop.ensures in
-    record {
-      steps = λ old s st. record { move = is_halted t q old a.candidates.now a.hits.now a.progress.now s st c.in-Some.top c.in-Some.ensures c.if-at-k.false m.0 (λ z. m.1 (z ∙ sym c.requires.weighable.weighted)) m.2; hits = refl; progress = refl; asks = λ k x y h. h };
-      kept = refl;
-      same = refl;
-      ready = c.requires.ready;
-    }
-
-pub returns-in-Measure : goal.returns-in-Measure
-returns-in-Measure g c =
-    let t = g.S.Source.tables c.args.source.now c.args.meter.now in
-    let a = c.args in
-    let q = asking a.weights.now (g.A.Aggregate.meaning a.aggregate.now) a.k a.radius a.budget in
+    let S = g.S.Source in
     let n = c.measure in
     let e = n.ensures in
     let m = c.in-Measure.ensures in
-    record {
-      steps = λ old s st.
-          is_measured t q old a.candidates.now a.hits.now a.progress.now s st c.in-Some.top c.in-Some.ensures c.if-at-k.false m.0 e.replaced.0 e.replaced.1 n.new.candidates n.result (g.S.Source.asked a.source.now a.meter.now) (g.S.Source.asked a.source.now n.new.meter) n.auto.candidates (λ z. m.1 (z ∙ sym c.requires.weighable.weighted)) m.2 e.replaced.2 e.replaced.3 e.progress e.adds;
-      kept = e.kept;
-      same = e.same;
-      ready = e.ready;
-    }
+    λ old s st.
+    is_measured (S.tables a.source.now a.meter.now) (posed g.A.Aggregate.meaning a.question.now) old a.candidates.now a.hits.now a.progress.now s st c.in-Some.top c.in-Some.ensures c.if-at-question.false m.0 e.replaced.0 e.replaced.1 n.new.candidates n.result (S.asked a.source.now a.meter.now) (S.asked a.source.now n.new.meter) n.auto.candidates (λ z. m.1 (z ∙ sym c.requires.weighable.weighted)) m.2 e.replaced.2 e.replaced.3 e.progress e.adds
+
+pub measure-requires-clause-sound : goal.measure-requires-clause-sound
+measure-requires-clause-sound g c =
+    let a = c.args in
+    (fine (g.S.Source.tables a.source.now a.meter.now) (posed g.A.Aggregate.meaning a.question.now) c.requires.stands.0 a.candidates.now a.hits.now a.progress.now c.requires.stands.1 c.requires.stands.2 c.in-Some.top c.in-Some.ensures).sound
+
+pub measure-requires-clause-more : goal.measure-requires-clause-more
+measure-requires-clause-more g c =
+    let a = c.args in
+    let f = fine (g.S.Source.tables a.source.now a.meter.now) (posed g.A.Aggregate.meaning a.question.now) c.requires.stands.0 a.candidates.now a.hits.now a.progress.now c.requires.stands.1 c.requires.stands.2 c.in-Some.top c.in-Some.ensures in
+    let n = f.sound.within in
+    let w = c.requires.weighable.weighted in
+    omega (arith, c.in-Measure.ensures.1)
+
+pub measure-requires-clause-within : goal.measure-requires-clause-within
+measure-requires-clause-within g c = c.requires.stands.2.within

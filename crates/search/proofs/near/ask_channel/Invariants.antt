@@ -12,5 +12,5 @@ invariant-loop-p g l =
     let ms = few (s.models l.initial.set) in
     (s.models l.set ≡ s.models l.initial.set)
     × (length l.near ≡ 8)
-    × ((j : ℕ) → j < l.p → get_or l.near j 0 ≡ (at ms l.c).dist (row ms l.c l.query) (pivot_row ms l.l l.c j l.store))
-    × AddsOnly (s.asked l.initial.set) (s.asked l.set) (NearAsks ms l.counts l.store l.query)
+    × ((j : ℕ) → j < l.p → get_or l.near j 0 ≡ (at ms l.c).dist (row ms l.c l.view.query.now) (pivot_row ms l.view.layout l.c j l.view.store.now))
+    × AddsOnly (s.asked l.initial.set) (s.asked l.set) (NearAsks ms l.view.counts l.view.store.now l.view.query.now)

@@ -11,5 +11,5 @@ invariant-loop-c g l =
     let ms = few (s.models l.initial.set) in
     (s.models l.set ≡ s.models l.initial.set)
     × (length l.table ≡ 8)
-    × ((j : ℕ) → j < l.c → NearIn ms l.counts l.store l.query j (get_or l.table j []))
-    × AddsOnly (s.asked l.initial.set) (s.asked l.set) (NearAsks ms l.counts l.store l.query)
+    × ((j : ℕ) → j < l.c → NearIn ms l.view.counts l.view.store.now l.view.query.now j (get_or l.table j []))
+    × AddsOnly (s.asked l.initial.set) (s.asked l.set) (NearAsks ms l.view.counts l.view.store.now l.view.query.now)
