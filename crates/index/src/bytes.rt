@@ -1,7 +1,7 @@
 //! Reads and writes on the bytes of a store.
 ghost use Rattle.std.specs.Prelude.{◌≡◌, ◌+◌, ◌≤◌, length, replicate};
 ghost use Rattle.big_endian.specs.Numbers.{be16};
-ghost use Rattle.index.specs.Bytes.{put, part, get16};
+ghost use Rattle.index.specs.Bytes.{put, part};
 ghost use Rattle.index.specs.Steps.{moved};
 
 // Writes `new` over the store from `at` on.
@@ -20,14 +20,6 @@ pub fn put_u16(store: &mut [u8], at: usize, n: u16)
 {
     let bytes = n.to_be_bytes();
     put_bytes(store, at, &bytes);
-}
-
-// Reads a number of two bytes.
-pub fn get_u16(store: &[u8], at: usize) -> u16
-    requires { at + 2 ≤ length store.now }
-    ensures { result ≡ get16 at store.now }
-{
-    u16::from_be_bytes([store[at], store[at + 1]])
 }
 
 // Writes n zeros.

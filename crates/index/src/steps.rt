@@ -7,10 +7,11 @@ ghost use Rattle.index.specs.Layouts.{number_at};
 ghost use Rattle.index.specs.Steps.{each, first_from, store_channel, store_own, free_distance, shifted_slot};
 ghost use Rattle.index.specs.Works.{Ready, OwnAsks};
 
-use crate::bytes::{get_u16, move_part, put_u16};
+use crate::bytes::{move_part, put_u16};
 use crate::counts::ChannelRecord;
 use crate::inventory::Inventory;
 use crate::layout::{RowSpan, row_span};
+use big_endian::get_u16;
 use metric::channels::ChannelSet;
 
 // One pivot more.

@@ -1,13 +1,14 @@
 //! What a search takes its numbers from: an index, its store, and the query.
 ghost use Rattle.std.specs.Prelude.{◌≡◌, ◌+◌, ◌*◌, ◌<◌, ◌≤◌, length};
 ghost use Rattle.patch.specs.Patches.{few};
-ghost use Rattle.index.specs.Bytes.{part, get16};
-ghost use Rattle.index.specs.Layouts.{Sound, number_at, distance_at};
+ghost use Rattle.index.specs.Bytes.{part};
+ghost use Rattle.index.specs.Layouts.{Sound, distance_at};
 ghost use Rattle.promise.specs.Held.{held_tables};
 ghost use Rattle.search.specs.Sources.{Prepared};
 
 use crate::reads::View;
 use crate::walk::bounds;
+use big_endian::get_u16;
 use engine::source::Source;
 use index::layout::Layout;
 use metric::channels::ChannelSet;
@@ -19,14 +20,6 @@ pub(crate) struct Held<'a> {
     pub(crate) view: View<'a>,
     pub(crate) near: [[u16; 8]; 8],
     pub(crate) tops: [u16; 8],
-}
-
-// The accession number of a slot.
-fn number_of(store: &[u8], slot: usize) -> u16
-    requires { 2 * slot + 2 ≤ length store.now }
-    ensures { result ≡ get16 (number_at slot) store.now }
-{
-    u16::from_be_bytes([store[2 * slot], store[2 * slot + 1]])
 }
 
 // The sixteen bytes of a slot's distances to the pivots of channel c.
@@ -56,7 +49,7 @@ impl<'a, S: ChannelSet> Source<S> for Held<'a> {
     }
 
     fn number(&self, _meter: &S, slot: usize) -> u16 {
-        number_of(self.view.store, slot)
+        get_u16(self.view.store, 2 * slot)
     }
 
     fn bounds(&self, _meter: &S, slot: usize, c: usize) -> (u16, u16) {

@@ -2,16 +2,9 @@
 ghost use Rattle.std.specs.Prelude.{◌≡◌, ◌+◌, ◌*◌, ◌≤◌, min, length};
 ghost use Rattle.metric.specs.Distances.{difference};
 ghost use Rattle.refine.specs.Bounds.{lower_of, upper_of};
-ghost use Rattle.index.specs.Bytes.{get16};
 ghost use Rattle.search.specs.Walks.{firsts, stored};
 
-// The number of two bytes at place p.
-fn stored_at(bytes: &[u8], p: usize) -> u16
-    requires { 2 * p + 2 ≤ length bytes.now }
-    ensures { result ≡ get16 (2 * p) bytes.now }
-{
-    u16::from_be_bytes([bytes[2 * p], bytes[2 * p + 1]])
-}
+use big_endian::get_u16;
 
 // What one pivot says: by how much the two distances differ, and their sum, as far as 16 bits go.
 fn sides(near: u16, far: u16) -> (u16, u16)
@@ -32,7 +25,7 @@ fn walk_pivots(top: u16, near: &[u16], far: &[u8], pivots: usize) -> (u16, u16)
     let mut lower: u16 = 0;
     let mut upper = top;
     for p in 0..pivots {
-        let (least, most) = sides(near[p], stored_at(far, p));
+        let (least, most) = sides(near[p], get_u16(far, 2 * p));
         lower = lower.max(least);
         upper = upper.min(most);
     }
