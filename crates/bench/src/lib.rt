@@ -4,6 +4,7 @@
 ghost use Rattle.std.specs.Prelude.{◌≡◌, ◌+◌, [], ◌∷◌};
 ghost use Rattle.metric.specs.Distances.{city_block, hamming, circular, chebyshev};
 
+use command::format::Format;
 use metric::channels::{ChannelSet, Pair, Single};
 use metric::chebyshev::Chebyshev;
 use metric::circular::Circular;
@@ -46,6 +47,12 @@ pub fn four(bands: u8, ink: u8, grain: u8, depth: u8) -> Four
         },
     }
 }
+
+/// One weight for each of the bench's channels, and the 12 bytes of a patch.
+pub const FORMAT: Format = Format {
+    weights: 4,
+    rows: 12,
+};
 
 /// The bench's channels.
 pub fn bench() -> Bench

@@ -3,8 +3,7 @@
 
 #[cfg(test)]
 mod tests {
-    use bench::bench;
-    use command::format::Format;
+    use bench::{FORMAT, bench};
     use engine::records::{Candidate, Neighbor};
     use index::pivot_index::PivotIndex;
     use queue::rank::Upper;
@@ -13,36 +12,18 @@ mod tests {
     use std::process::Abort;
     use std::test::Fail;
 
-    const NO_HIT: Neighbor = Neighbor {
-        accession: 0,
-        distance: 0,
-    };
-
-    const NO_CANDIDATE: Candidate = Candidate {
-        bound: 0,
-        accession: 0,
-        slot: 0,
-        measured: 0,
-        order: [0; 8],
-        entries: [0; 8],
-    };
-
     // What an input prints.
     fn printed(heap: Global, input: &[u8]) -> Result<String, Fail> {
         let mut store = [0u8; 5088];
         let mut index = PivotIndex::new(bench(), 64, &mut store)?;
-        let mut hits = [NO_HIT; 64];
-        let mut candidates = [NO_CANDIDATE; 64];
+        let mut hits = [Neighbor::BLANK; 64];
+        let mut candidates = [Candidate::BLANK; 64];
         let mut uppers = [Upper(0); 64];
         let mut lines = String::new(heap);
-        let format = Format {
-            weights: 4,
-            rows: 12,
-        };
         run(
             &mut index,
             &mut store,
-            format,
+            FORMAT,
             input,
             &mut hits,
             &mut candidates,

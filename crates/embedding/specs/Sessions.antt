@@ -1,7 +1,7 @@
 -- Commands served.
 use Rattle.std.specs.Prelude.{ℕ}
-use Rattle.core.specs.declared.ops.ControlFlow.{ControlFlow}
-use Rattle.core.specs.declared.ops.ControlFlow.TheVariants.{Continue, Break}
+use Rattle.std.specs.declared.ops.ControlFlow.{ControlFlow}
+use Rattle.std.specs.declared.ops.ControlFlow.TheVariants.{Continue, Break}
 
 -- how far the answers go, whether there may be more or not
 abbrev pub reached : ControlFlow ℕ ℕ → ℕ

@@ -4,15 +4,8 @@ ghost use Rattle.embedding.specs.Answers.{Wrote};
 
 use crate::memory::{begin, size};
 use crate::session::serve_in;
-use bench::bench;
-use command::format::Format;
+use bench::{FORMAT, bench};
 use refusal::code;
-
-// One weight for each of the four channels, and the 12 bytes of a patch.
-const FORMAT: Format = Format {
-    weights: 4,
-    rows: 12,
-};
 
 /// How many bytes an index of that many slots takes; 0 where there are more than 4,096.
 #[unsafe(no_mangle)]

@@ -18,11 +18,11 @@ fn channels_in(memory: &[u8]) -> Option<[ChannelRecord; 8]>
     ensures { IfSome result (λ xs. (c : ℕ) → (slice_index_or xs c no_record).pivots ≤ 8) }
 {
     let mut channels = [ChannelRecord { pivots: 0 }; 8];
-    for (record, pivots) in channels.iter_mut().zip(&memory[4..12]) {
+    for (c, pivots) in memory[4..12].iter().enumerate() {
         if *pivots > 8 {
             return None;
         }
-        record.pivots = *pivots;
+        channels[c] = ChannelRecord { pivots: *pivots };
     }
     Some(channels)
 }

@@ -214,15 +214,6 @@ pub(crate) fn run<S: ChannelSet>(
 // How many patches a search works on at most.
 const SLOTS: usize = 4096;
 
-const BLANK: Candidate = Candidate {
-    bound: 0,
-    accession: 0,
-    slot: 0,
-    measured: 0,
-    order: [0; 8],
-    entries: [0; 8],
-};
-
 // Serves commands on the index in a memory; how many bytes of the answers are written. None where the memory holds no index.
 pub(crate) fn serve_in<S: ChannelSet + Drop>(
     set: S,
@@ -240,11 +231,8 @@ pub(crate) fn serve_in<S: ChannelSet + Drop>(
     let Some(mut index) = open(set, memory) else {
         return 0;
     };
-    let mut hits = [Neighbor {
-        accession: 0,
-        distance: 0,
-    }; SLOTS];
-    let mut candidates = [BLANK; SLOTS];
+    let mut hits = [Neighbor::BLANK; SLOTS];
+    let mut candidates = [Candidate::BLANK; SLOTS];
     let mut uppers = [Upper(0); SLOTS];
     let len = run(
         &mut index,

@@ -7,6 +7,7 @@ use crate::session::serve_in;
 use bench::{Four, four};
 use command::format::Format;
 use metric::channels::Pair;
+use refusal::code;
 
 // One weight for each channel, and the bytes of a patch.
 const FORMAT: Format = Format {
@@ -24,13 +25,13 @@ fn wide() -> Pair<Four, Four> {
 /// How many bytes an index of that many slots takes; 0 where there are more than 4,096.
 #[unsafe(no_mangle)]
 pub extern "C" fn embedding_wide_size(capacity: u16) -> usize {
-    size(&wide(), capacity)
+    size(&wide(), capacity).unwrap_or(0)
 }
 
 /// Begins an index of no patches: 0, or the number of the refusal, 12, which changes nothing.
 #[unsafe(no_mangle)]
 pub extern "C" fn embedding_wide_new(memory: &mut [u8], capacity: u16) -> u8 {
-    begin(wide(), memory, capacity)
+    code(begin(wide(), memory, capacity))
 }
 
 /// Serves commands and writes their answers, one behind another; how many bytes. A command for whose answer there is no room is not

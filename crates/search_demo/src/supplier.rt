@@ -38,20 +38,6 @@ const SLOTS: usize = 12;
 // Twelve slots of 2 + 12 + 64 bytes, and 96 bytes of pivot rows.
 const STORE: usize = 1032;
 
-const NO_HIT: Neighbor = Neighbor {
-    accession: 0,
-    distance: 0,
-};
-
-const NO_CANDIDATE: Candidate = Candidate {
-    bound: 0,
-    accession: 0,
-    slot: 0,
-    measured: 0,
-    order: [0; 8],
-    entries: [0; 8],
-};
-
 /// A supplier's index and store.
 #[derive(Drop)]
 pub struct Supplier {
@@ -118,8 +104,8 @@ impl Supplier {
             k: question.k,
             radius: question.radius,
         };
-        let mut hits = [NO_HIT; SLOTS];
-        let mut candidates = [NO_CANDIDATE; SLOTS];
+        let mut hits = [Neighbor::BLANK; SLOTS];
+        let mut candidates = [Candidate::BLANK; SLOTS];
         let mut uppers = [Upper(0); SLOTS];
         let answer = nearest(
             &mut self.index,

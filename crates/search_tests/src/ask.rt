@@ -27,15 +27,6 @@ pub const USED: Candidate = Candidate {
     entries: [7; 8],
 };
 
-const BLANK: Candidate = Candidate {
-    bound: 0,
-    accession: 0,
-    slot: 0,
-    measured: 0,
-    order: [0; 8],
-    entries: [0; 8],
-};
-
 /// An answer with its hits.
 #[derive(Clone, Copy)]
 pub struct Told {
@@ -46,19 +37,9 @@ pub struct Told {
 /// Hits beyond those named are as they began.
 pub fn check_untouched(rt: &impl Abort, hits: &[Neighbor], named: u16) -> Result<(), Fail> {
     for hit in hits.iter().skip(named as usize) {
-        assert_eq!(rt; hit.accession, UNTOUCHED.accession);
-        assert_eq!(rt; hit.distance, UNTOUCHED.distance);
+        assert_eq!(rt; *hit, UNTOUCHED);
     }
     Ok(())
-}
-
-fn alike(a: &Candidate, b: &Candidate) -> bool {
-    a.bound == b.bound
-        && a.accession == b.accession
-        && a.slot == b.slot
-        && a.measured == b.measured
-        && a.order == b.order
-        && a.entries == b.entries
 }
 
 /// All scratch is as said.
@@ -70,7 +51,7 @@ pub fn check_scratch(
     upper: u32,
 ) -> Result<(), Fail> {
     for (x, y) in candidates.iter().zip(uppers) {
-        assert!(rt; alike(x, candidate));
+        assert_eq!(rt; x, candidate);
         assert_eq!(rt; y.0, upper);
     }
     Ok(())
@@ -100,6 +81,6 @@ pub fn ask<S: ChannelSet>(
     assert!(rt; answer.named <= query.k);
     assert!(rt; answer.measured <= budget);
     check_untouched(rt, &hits, answer.named)?;
-    check_scratch(rt, &candidates, &uppers, &BLANK, 0)?;
+    check_scratch(rt, &candidates, &uppers, &Candidate::BLANK, 0)?;
     Ok(Told { answer, hits })
 }

@@ -90,7 +90,7 @@ impl Chance {
     }
 
     fn aggregate(&mut self) -> Choice {
-        Choice::from_number(self.below(3) as u8).unwrap_or(Choice::Sum)
+        Choice::try_from(self.below(3) as u8).unwrap_or(Choice::Sum)
     }
 
     /// None, few, some, or as many as are asked for.

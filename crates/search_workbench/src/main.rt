@@ -2,8 +2,7 @@
 #![tactic(auto)]
 
 use anyhow::anyhow;
-use bench::bench;
-use command::format::Format;
+use bench::{FORMAT, bench};
 use engine::records::{Candidate, Neighbor};
 use index::pivot_index::PivotIndex;
 use queue::rank::Upper;
@@ -15,26 +14,6 @@ const SLOTS: u16 = 64;
 // How many bytes of the input are read at most.
 const INPUT: u64 = 32768;
 
-// One weight for each of the bench's four channels, and the 12 bytes of a patch.
-const FORMAT: Format = Format {
-    weights: 4,
-    rows: 12,
-};
-
-const NO_HIT: Neighbor = Neighbor {
-    accession: 0,
-    distance: 0,
-};
-
-const NO_CANDIDATE: Candidate = Candidate {
-    bound: 0,
-    accession: 0,
-    slot: 0,
-    measured: 0,
-    order: [0; 8],
-    entries: [0; 8],
-};
-
 fn serve(rt: &HostRuntime) -> anyhow::Result<()> {
     let mut input = Vec::new(rt.alloc());
     rt.stdin().take(INPUT).read_to_end(&mut input)?;
@@ -42,8 +21,8 @@ fn serve(rt: &HostRuntime) -> anyhow::Result<()> {
     let Ok(mut index) = PivotIndex::new(bench(), SLOTS, &mut store) else {
         return Err(anyhow!("the store does not fit the bench's channels"));
     };
-    let mut hits = [NO_HIT; 64];
-    let mut candidates = [NO_CANDIDATE; 64];
+    let mut hits = [Neighbor::BLANK; 64];
+    let mut candidates = [Candidate::BLANK; 64];
     let mut uppers = [Upper(0); 64];
     let mut lines = String::new(rt.alloc());
     if run(

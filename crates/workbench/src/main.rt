@@ -2,8 +2,7 @@
 #![tactic(auto)]
 
 use anyhow::anyhow;
-use bench::bench;
-use command::format::Format;
+use bench::{FORMAT, bench};
 use console::run;
 use index::pivot_index::PivotIndex;
 use std::io::Read;
@@ -12,12 +11,6 @@ const SLOTS: u16 = 64;
 
 // How many bytes of the input are read at most.
 const INPUT: u64 = 32768;
-
-// One weight for each of the bench's four channels, and the 12 bytes of a patch.
-const FORMAT: Format = Format {
-    weights: 4,
-    rows: 12,
-};
 
 fn serve(rt: &HostRuntime) -> anyhow::Result<()> {
     let mut input = Vec::new(rt.alloc());
