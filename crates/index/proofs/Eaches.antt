@@ -1,7 +1,6 @@
 -- Steps one after the other, and the first slot.
 use Rattle.std.specs.List.{find, range_with_len}
-use Rattle.std.proofs.Common.{◌≡◌, ℕ, zero, suc, refl, ◌+◌, ◌-◌, ◌<◌, true, false, cond, eqb, List, Some, None, sym, ap, ◌∙◌, add-one, arith}
-use Rattle.std.proofs.lemmas.Bool.{cond-true, cond-false}
+use Rattle.std.proofs.Common.{◌≡◌, ℕ, zero, suc, refl, ◌+◌, cond, eqb, List, Some, ap, add-one}
 use Rattle.index.specs.Bytes.{get16}
 use Rattle.index.specs.Layouts.{number_at}
 use Rattle.index.specs.Steps.{each, first_from}

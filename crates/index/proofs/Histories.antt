@@ -3,7 +3,6 @@ use Rattle.std.proofs.Common.{◌≡◌, ℕ, ◌+◌, ◌≤◌, Bool, true, fa
 use Rattle.std.proofs.lemmas.List.{length-replicate}
 use Rattle.std.proofs.lemmas.Bool.{ltb-false, both_ways}
 use Rattle.metric.specs.Model.{Model}
-use Rattle.metric.specs.Channels.{AllLawful}
 use Rattle.patch.specs.Patches.{few}
 use Rattle.patch.proofs.Widths.{few_all}
 use Rattle.refusal.specs.declared.Refusal.{Refusal}
@@ -111,7 +110,3 @@ module _ (ms : List Model) (cap : ℕ) (k : Counts) (b b₀ : List ℕ) (h : Lis
   holds_shows =
       let st = holds_stands in
       (record { counts = st.counts; stated = fields_join ms cap (shown ms (held ms cap h) (pivots ms cap h)) b st.shows; beyond = st.beyond }, st.kept)
-
-pub history_shows : (ms : List Model) (cap : ℕ) (k : Counts) (b b₀ : List ℕ) (h : List Call) → 1 ≤ length ms → AllLawful ms → Holds ms k b cap b₀ h
-    → Shows ms cap (held ms cap h) (pivots ms cap h) k b b₀ × Kept ms cap (held ms cap h) (pivots ms cap h)
-history_shows ms cap k b b₀ h some lawful hold = holds_shows ms cap k b b₀ h hold

@@ -1,7 +1,6 @@
 -- What a write to the store leaves of its parts.
 use Rattle.std.proofs.Common.{◌≡◌, ℕ, zero, suc, ◌+◌, ◌-◌, ◌<◌, ◌≤◌, ◌⊎◌, List, length, take, drop, replicate, sym, ap, ◌∙◌, inl, inr, arith, rules}
-use lib.Seq.{paste}
-use Rattle.std.proofs.lemmas.List.{places, same_lists, length-take, length-drop, length-append, length-replicate, get_or-replicate}
+use Rattle.std.proofs.lemmas.List.{places, same_lists, length-take, length-drop, length-append}
 use Rattle.index.specs.Bytes.{put, part}
 use Rattle.index.specs.Steps.{each, moved}
 
@@ -54,10 +53,6 @@ part_same n from w xs ys h e = sym (part_take n from w xs h) ∙ ap (part from w
 -- a part as code cuts it
 pub cut : (at w : ℕ) (xs : List ℕ) → take ((at + w) - at) (drop at xs) ≡ part at w xs
 cut at w xs = let e : (at + w) - at ≡ w = omega arith in ap (λ (n : ℕ). take n (drop at xs)) e
-
--- a copy within the store, as the library says it
-pub copied : (from to n m : ℕ) (xs : List ℕ) → m ≡ n → from + n ≤ length xs → to + n ≤ length xs → paste xs to (drop from xs) m ≡ put to (part from n xs) xs
-copied from to n m xs e h t = rw e (same_lists _ _ (search (rules, places)) (λ k d q. grind (arith, places)))
 
 -- a loop keeps what each of its steps keeps
 pub each_keeps : (P : ℕ → List ℕ → Type 0) (f : ℕ → List ℕ → List ℕ) (b : List ℕ) (n : ℕ) → P 0 b → ((i : ℕ) (x : List ℕ) → i < n → P i x → P (suc i) (f i x)) → P n (each n f b)

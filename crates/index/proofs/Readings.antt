@@ -1,5 +1,5 @@
 -- What is read from a store that shows patches and pivots.
-use Rattle.std.proofs.Common.{◌≡◌, ℕ, ◌<◌, ◌≤◌, ltb, List, [], ◌∷◌, length, get_or, None, sym, refl, ap, ◌∙◌, subst, inl, inr, arith}
+use Rattle.std.proofs.Common.{◌≡◌, ℕ, ◌<◌, ◌≤◌, ltb, List, [], length, get_or, None, sym, ap, ◌∙◌, subst, inl, inr, arith}
 use mathlib.Core.Path.{fun_ext}
 use Rattle.std.proofs.lemmas.List.FromFn.{length-map-range_with_len}
 use Rattle.std.proofs.lemmas.List.{length-take, length-replicate, get_or_past}
@@ -12,9 +12,9 @@ use Rattle.index.specs.declared.counts.ChannelRecord.{ChannelRecord}
 use Rattle.index.specs.declared.counts.Counts.{Counts}
 use Rattle.index.specs.Bytes.{part, get16}
 use Rattle.index.specs.Calls.{first_slot, find_slot, stated}
-use Rattle.index.specs.History.{Call, call, no_patch, place, held, pivots, Fits, Holds}
+use Rattle.index.specs.History.{Call, no_patch, place, held, pivots, Holds}
 use Rattle.index.specs.Image.{counted, image, Shows, Kept}
-use Rattle.index.specs.Laws.{HistoryShows, HeldAlike, SearchKeeps}
+use Rattle.index.specs.Laws.{HistoryShows, HeldAlike}
 use Rattle.index.specs.Layouts.{layout_of, number_at, row_at, distance_at}
 use Rattle.index.specs.Limits.{no_record, pivots_in}
 use Rattle.index.specs.Steps.{slot_row, pivot_row}
@@ -24,7 +24,7 @@ use Rattle.index.proofs.Shown.{shown, number_held, number_free, rows_held, rows_
 use Rattle.index.proofs.Counting.{pivots_counted}
 use Rattle.index.proofs.Places.{get16_is, found_place}
 use Rattle.index.proofs.Tiling.{fields_long, fields_split}
-use Rattle.index.proofs.Histories.{holds_granted, holds_stands, holds_shows}
+use Rattle.index.proofs.Histories.{holds_granted, holds_shows}
 
 module _ (ms : List Model) (cap : ℕ) (ps : List Patch) (pv : ℕ → List (List ℕ)) (kept : Kept ms cap ps pv) where
   zeros_long : (n : ℕ) → length (zeros n) ≡ n
@@ -176,6 +176,3 @@ law_alike ms cap k l b c b₀ c₀ g h p q e f =
     let t = (holds_shows ms cap l c c₀ h q).0 in
     let v : pivots ms cap g ≡ pivots ms cap h = fun_ext f in
     (s.counts ∙ (λ i. counted ms (e i) (v i) cap) ∙ sym t.counts, s.stated ∙ (λ i. image ms (e i) (v i) cap) ∙ sym t.stated)
-
-pub law_search : SearchKeeps
-law_search ms cap b h = (refl, refl, λ j. refl)

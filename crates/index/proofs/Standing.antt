@@ -42,23 +42,6 @@ under : {X : Type 0} (v : Bool) (x y z : X) → (v ≡ true → x ≡ y) → con
 under true x y z e = e refl
 under false x y z e = refl
 
--- conjunctions of tests, the first of which is not known
-one_off : (x y z : Bool) → (x && false && y && z) ≡ false
-one_off true y z = refl
-one_off false y z = refl
-
-two_off : (x z : Bool) → (x && true && false && z) ≡ false
-two_off true z = refl
-two_off false z = refl
-
-three_off : (x : Bool) → (x && true && true && false) ≡ false
-three_off true = refl
-three_off false = refl
-
-three_on : (x : Bool) → (x && true && true && true) ≡ x
-three_on true = refl
-three_on false = refl
-
 first_is : (ms : List Model) (cap : ℕ) (b₀ b : List ℕ) (ps : List Patch) (pv : ℕ → List (List ℕ))
     → Stands ms cap b₀ ps pv (record { counts = counted ms ps pv cap; bytes = b }) → (a : ℕ) → first_slot (counted ms ps pv cap) b a ≡ place a ps
 first_is ms cap b₀ b ps pv st a =
@@ -165,9 +148,9 @@ module _ (ms : List Model) (cap : ℕ) (b₀ : List ℕ) (few : length ms ≤ 8)
         add_granted slot chan below space =
             let x = row ms c (get_or ps slot no_patch).rows in
             let qv = with_more true (Some slot) true in
-            let here : qv c ≡ pv c ++ x ∷ [] = cond-true (eqb c c && true && true && true) (pv c ++ x ∷ []) (pv c) (three_on (eqb c c) ∙ eq-eqb c c refl) in
+            let here : qv c ≡ pv c ++ x ∷ [] = cond-true (eqb c c && true && true && true) (pv c ++ x ∷ []) (pv c) (grind (arith, eq-eqb c c refl)) in
             let others : (d : ℕ) → (d ≡ c → ⊥) → qv d ≡ pv d =
-            λ d ne. cond-false (eqb d c && true && true && true) (pv d ++ x ∷ []) (pv d) (three_on (eqb d c) ∙ ne_eqb d c ne) in
+            λ d ne. cond-false (eqb d c && true && true && true) (pv d ++ x ∷ []) (pv d) (grind (arith, ne_eqb d c ne)) in
             let n : length (qv c) ≡ length (pv c) + 1 = ap length here ∙ length_push (pv c) x in
             let p : pivots_in k c ≡ length (pv c) = pivots_counted ms ps pv cap c (omega arith) in
             let r = st.kept.rows slot below in
@@ -180,9 +163,9 @@ module _ (ms : List Model) (cap : ℕ) (b₀ : List ℕ) (few : length ms ≤ 8)
 
         add_cases : (x : Bool) (f : Option ℕ) (y : Bool) → (x ≡ true → c < length ms) → (is_some f ≡ true → unwrap_or f 0 < length ps) → (y ≡ true → length (pv c) < 8)
             → Stands ms cap b₀ ps (with_more x f y) (add_left f (cond x (cond (is_some f) (cond y None (Some PivotsFull)) (Some NotHeld)) (Some NoSuchChannel)))
-        add_cases false f y h₁ h₂ h₃ = same_pivots (with_more false f y) (λ j. cond-false (eqb j c && false && is_some f && y) (pv j ++ row ms c (get_or ps (unwrap_or f 0) no_patch).rows ∷ []) (pv j) (one_off (eqb j c) (is_some f) y))
-        add_cases true None y h₁ h₂ h₃ = same_pivots (with_more true None y) (λ j. cond-false (eqb j c && true && false && y) (pv j ++ row ms c (get_or ps 0 no_patch).rows ∷ []) (pv j) (two_off (eqb j c) y))
-        add_cases true (Some i) false h₁ h₂ h₃ = same_pivots (with_more true (Some i) false) (λ j. cond-false (eqb j c && true && true && false) (pv j ++ row ms c (get_or ps i no_patch).rows ∷ []) (pv j) (three_off (eqb j c)))
+        add_cases false f y h₁ h₂ h₃ = same_pivots (with_more false f y) (λ j. cond-false (eqb j c && false && is_some f && y) (pv j ++ row ms c (get_or ps (unwrap_or f 0) no_patch).rows ∷ []) (pv j) (grind arith))
+        add_cases true None y h₁ h₂ h₃ = same_pivots (with_more true None y) (λ j. cond-false (eqb j c && true && false && y) (pv j ++ row ms c (get_or ps 0 no_patch).rows ∷ []) (pv j) (grind arith))
+        add_cases true (Some i) false h₁ h₂ h₃ = same_pivots (with_more true (Some i) false) (λ j. cond-false (eqb j c && true && true && false) (pv j ++ row ms c (get_or ps i no_patch).rows ∷ []) (pv j) (grind arith))
         add_cases true (Some i) true h₁ h₂ h₃ = add_granted i (h₁ refl) (h₂ refl) (h₃ refl)
 
         add_stands : (a : ℕ) → Stands ms cap b₀ ps (change_pivots ms ps (add_pivot c a) pv) (call ms (add_pivot c a) w)
@@ -206,19 +189,11 @@ module _ (ms : List Model) (cap : ℕ) (b₀ : List ℕ) (few : length ms ≤ 8)
         abbrev free_left : Option Refusal → Written
         free_left r = left_by w (with_pivots k c (pivots_in k c - 1)) (freed_bytes ms k c p b) r
 
-        off : (x y : Bool) → (x && y) ≡ false → (z : Bool) → (z && x && y) ≡ false
-        off x y e true = e
-        off x y e false = refl
-
-        on : (z : Bool) → (z && true && true) ≡ z
-        on true = refl
-        on false = refl
-
         free_granted : c < length ms → p < length (pv c) → Stands ms cap b₀ ps (with_less true true) (free_left None)
         free_granted chan below =
             let qv = with_less true true in
-            let here : qv c ≡ closed_up [] (pv c) p = cond-true (eqb c c && true && true) (closed_up [] (pv c) p) (pv c) (on (eqb c c) ∙ eq-eqb c c refl) in
-            let others : (d : ℕ) → (d ≡ c → ⊥) → qv d ≡ pv d = λ d ne. cond-false (eqb d c && true && true) (closed_up [] (pv d) p) (pv d) (on (eqb d c) ∙ ne_eqb d c ne) in
+            let here : qv c ≡ closed_up [] (pv c) p = cond-true (eqb c c && true && true) (closed_up [] (pv c) p) (pv c) (grind (arith, eq-eqb c c refl)) in
+            let others : (d : ℕ) → (d ≡ c → ⊥) → qv d ≡ pv d = λ d ne. cond-false (eqb d c && true && true) (closed_up [] (pv d) p) (pv d) (grind (arith, ne_eqb d c ne)) in
             let n : length (qv c) ≡ length (pv c) - 1 = ap length here ∙ closed_length [] (pv c) p below in
             let q : pivots_in k c ≡ length (pv c) = pivots_counted ms ps pv cap c (omega arith) in
             let small = st.kept.eight c in
@@ -231,8 +206,8 @@ module _ (ms : List Model) (cap : ℕ) (b₀ : List ℕ) (few : length ms ≤ 8)
 
         free_cases : (x y : Bool) → (x ≡ true → c < length ms) → (y ≡ true → p < length (pv c))
             → Stands ms cap b₀ ps (with_less x y) (free_left (cond x (cond y None (Some NoSuchPivot)) (Some NoSuchChannel)))
-        free_cases false y h₁ h₂ = same_pivots (with_less false y) (λ j. cond-false (eqb j c && false && y) (closed_up [] (pv j) p) (pv j) (off false y refl (eqb j c)))
-        free_cases true false h₁ h₂ = same_pivots (with_less true false) (λ j. cond-false (eqb j c && true && false) (closed_up [] (pv j) p) (pv j) (off true false refl (eqb j c)))
+        free_cases false y h₁ h₂ = same_pivots (with_less false y) (λ j. cond-false (eqb j c && false && y) (closed_up [] (pv j) p) (pv j) (grind arith))
+        free_cases true false h₁ h₂ = same_pivots (with_less true false) (λ j. cond-false (eqb j c && true && false) (closed_up [] (pv j) p) (pv j) (grind arith))
         free_cases true true h₁ h₂ = free_granted (h₁ refl) (h₂ refl)
 
         free_stands : Stands ms cap b₀ ps (change_pivots ms ps (remove_pivot c p) pv) (call ms (remove_pivot c p) w)

@@ -11,10 +11,9 @@ use Rattle.index.specs.Asks.{AddsOnly, InsertAsks}
 use Rattle.index.specs.Bytes.{put, part}
 use Rattle.index.specs.Layouts.{layout_of, row_at, pivot_at, distance_at}
 use Rattle.index.specs.Limits.{pivots_in}
-use Rattle.index.specs.Steps.{each, slot_row, pivot_row, store_distance, store_own}
+use Rattle.index.specs.Steps.{slot_row, pivot_row, store_distance}
 use Rattle.index.specs.Works.{Ready, InUse}
-use Rattle.index.proofs.Eaches.{each_more}
-use Rattle.index.proofs.Puts.{part_same, cut, length_part}
+use Rattle.index.proofs.Puts.{part_same, cut}
 use Rattle.index.proofs.Spans.{next_le}
 
 -- the row as code cuts it

@@ -66,6 +66,7 @@ pub fn row_span<S: ChannelSet>(set: &S, l: &Layout, c: usize) -> RowSpan
     }
 }
 
+// That a layout is sound is asked for, and no ghost field: the definitions make layouts of any capacity.
 impl Layout {
     /// Where the rows of a slot begin.
     pub fn row_at(&self, slot: usize) -> usize

@@ -1,4 +1,4 @@
-use Rattle.std.proofs.Common.{◌≡◌, ◌+◌, ◌-◌, ◌<◌, ◌≤◌, length, take, drop, sym, ap, ◌∙◌, arith, rules}
+use Rattle.std.proofs.Common.{◌+◌, ◌-◌, ◌<◌, ◌≤◌, length, take, drop, sym, ap, ◌∙◌, arith}
 use Rattle.patch.specs.Patches.{few, row}
 use Rattle.big_endian.specs.Numbers.{be16}
 use Rattle.index.specs.declared.layout.Layout.{Layout}
@@ -8,12 +8,6 @@ use Rattle.index.proofs.Eaches.{each_more}
 use Rattle.index.proofs.Puts.{length_put, take_put}
 use Rattle.index.proofs.Stores.{row_cut, pivot_cut, pivot_same, stored, adds_pair}
 use Rattle.index.proofs.inventory.Inventory.store_channel.Goals as goal
-
-pub slice_bounds-row-end : goal.slice_bounds-row-end
-slice_bounds-row-end g c =
-    let u = c.row_span-start.ensures in
-    let h : c.row_span-start.result.start + c.row_span-start.result.width ≤ length c.args.rows.now = omega (arith, c.requires.rows, c.requires.ready.row) in
-    search rules
 
 pub loop-p-preserved : goal.loop-p-preserved
 loop-p-preserved g c =

@@ -1,23 +1,11 @@
-use Rattle.std.proofs.Common.{◌≡◌, ℕ, ◌<◌, List, length, sym, ap, ◌∙◌, subst, arith}
+use Rattle.std.proofs.Common.{ℕ, List, sym, ap, ◌∙◌}
 use Rattle.metric.specs.Model.{Model}
-use Rattle.patch.specs.Patches.{few, patch_width}
+use Rattle.patch.specs.Patches.{few}
 use Rattle.index.specs.Asks.{InsertAsks}
-use Rattle.index.specs.Steps.{each, store_channel}
+use Rattle.index.specs.Steps.{store_channel}
 use Rattle.index.proofs.Eaches.{each_more}
-use Rattle.index.proofs.Stores.{ready_again, insert_asks_below, adds_more, adds_among}
+use Rattle.index.proofs.Stores.{insert_asks_below, adds_more, adds_among}
 use Rattle.index.proofs.inventory.Inventory.store_patch.Goals as goal
-
-pub store_channel-requires : goal.store_channel-requires
-store_channel-requires g c =
-    let same = c.loop-c.invariant.0 in
-    let n : c.args.self.now.layout.channels ≡ length (few (g.S.ChannelSet.models c.args.set.now)) = c.requires.ready.channels in
-    let h : c.loop-c.c < length (few (g.S.ChannelSet.models c.args.set.now)) = omega arith in
-    record {
-      ready = ready_again _ _ _ _ _ _ same c.loop-c.auto.store c.requires.ready;
-      slot = c.requires.slot;
-      rows = c.requires.rows ∙ ap (λ (ls : List Model). patch_width (few ls)) (sym same);
-      channel = subst (λ (ls : List Model). c.loop-c.c < length (few ls)) (sym same) h;
-    }
 
 pub loop-c-preserved : goal.loop-c-preserved
 loop-c-preserved g c =
@@ -41,14 +29,3 @@ loop-c-preserved g c =
       adds_more before mid after (InsertAsks (few ms) k b₀ rows) c.loop-c.invariant.3
           (adds_among mid after (InsertAsks (few ms₁) k b rows) (InsertAsks (few ms) k b₀ rows) (insert_asks_below ms ms₁ k l b b₀ rows same c.requires.ready c.loop-c.invariant.2) c.store_channel.ensures.asks),
     )
-
-pub returns : goal.returns
-returns g c =
-    let ms = few (g.S.ChannelSet.models c.args.set.now) in
-    let n : c.args.self.now.layout.channels ≡ length ms = c.requires.ready.channels in
-    let e : c.loop-c.c ≡ length ms = omega arith in
-    record {
-      kept = c.loop-c.invariant.0;
-      bytes = c.loop-c.invariant.1 ∙ ap (λ (m : ℕ). each m (store_channel ms c.args.self.now.layout c.args.self.now.counts c.args.slot c.args.rows.now) c.args.store.now) e;
-      asks = c.loop-c.invariant.3;
-    }
