@@ -41,6 +41,7 @@ fn survey<M, S: Source<M>, A: Aggregate>(
     ensures kept { KeptWhere question.now.k result (map (family_of (S.tables source.now meter.now) (posed A.Aggregate.meaning question.now)).upper (range_with_len 0 (S.tables source.now meter.now).slots)) uppers.old uppers.new }
 {
     let mut len: usize = 0;
+    // By number: a slot is a place in the source and in the candidates.
     for slot in 0..source.slots(meter) {
         let (lower, upper) = extremes(source, meter, question, slot);
         candidates[slot].bound = lower;
@@ -114,6 +115,7 @@ pub(crate) fn admit<M, S: Source<M>>(
     ensures { Admits (S.tables source.now meter.now) weights.now (λ i. passes radius (plain limit) (bound_at candidates.old i)) (S.tables source.now meter.now).slots result candidates.old candidates.new }
 {
     let mut len: usize = 0;
+    // By number: the heap grows at the front of the candidates that are still to be read.
     for slot in 0..source.slots(meter) {
         let bound = candidates[slot].bound;
         if admissible(bound, radius, limit) {

@@ -123,7 +123,8 @@ fn measure<M, S: Source<M>, A: Aggregate>(
     }
 }
 
-// One step: the end, where it comes to one.
+// One step: the end, where it comes to one. A turn is a value, and not a closure, since its cases lend different things; and what is lent
+// stays in parameters, since a struct of several `&mut` would need clauses that each is still the same.
 pub(crate) fn step<M, S: Source<M>, A: Aggregate>(
     source: &S,
     meter: &mut M,

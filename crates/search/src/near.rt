@@ -17,6 +17,7 @@ fn ask_channel<S: ChannelSet>(set: &mut S, view: &View, c: usize) -> [u16; 8]
     ensures kept { S.models set.new ≡ S.models set.old }
     ensures asks { AddsOnly (S.asked set.old) (S.asked set.new) (NearAsks (few (S.models set.old)) view.now.counts view.now.store.now view.now.query.now) }
 {
+    // Loops, since a closure that asks would change the set, and `from_fn` would say nothing of what it gave.
     let mut near = [0u16; 8];
     for p in 0..view.counts.pivots_in(c) {
         near[p] = view.pivot_distance(set, c, p);

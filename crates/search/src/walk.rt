@@ -24,6 +24,7 @@ fn walk_pivots(top: u16, near: &[u16], far: &[u8], pivots: usize) -> (u16, u16)
 {
     let mut lower: u16 = 0;
     let mut upper = top;
+    // By index: a place is one number in `near` and two bytes in `far`.
     for p in 0..pivots {
         let (least, most) = sides(near[p], get_u16(far, 2 * p));
         lower = lower.max(least);

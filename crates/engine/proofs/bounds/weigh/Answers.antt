@@ -1,4 +1,4 @@
-use Rattle.std.proofs.Common.{◌∙◌, ap, ◌*◌, get_or, arith}
+use Rattle.std.proofs.Common.{arith}
 use Rattle.engine.proofs.Fills.{filled_more}
 use Rattle.engine.proofs.bounds.weigh.Goals as goal
 
