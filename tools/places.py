@@ -27,9 +27,9 @@ def functions():
                 depth += {"(": 1, ")": -1}.get(text[i], 0)
                 i += 1
             parameters = [re.sub(r"\s+", " ", p).strip() for p in re.split(r",\s*(?![^<(\[]*[>)\]])", text[m.end():i - 1])]
-            opening = re.search(r"\n%s\{\n| \{\n|;\n" % m.group(1), text[i:])
+            opening = re.search(r"\n%s\{\n| \{\n|;\n|\{\}\n" % m.group(1), text[i:])
             head, body = text[i:i + opening.start()], ""
-            if "{" in opening.group(0):
+            if opening.group(0).endswith("{\n"):
                 start = i + opening.end()
                 body = text[start:start + re.search(r"^%s\}$" % m.group(1), text[start:], re.M).start()]
             yield path, text.count("\n", 0, m.start()) + 1, m.group(2), [p for p in parameters if p], head, body

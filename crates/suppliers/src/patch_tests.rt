@@ -17,11 +17,10 @@ const PATCH: [u8; 12] = [
 #[test]
 fn channels_in_order(rt: HostRuntime) {
     let mut set = bench();
-    let expected = [2, 1, 4, 1];
-    for c in 0..4 {
+    for (c, expected) in [2, 1, 4, 1].iter().enumerate() {
         assert_eq!(rt;
             channel_distance(&mut set, c, &QUERY, &PATCH),
-            Ok(expected[c])
+            Ok(*expected)
         );
     }
     assert_eq!(rt; set.channels(), 4);
