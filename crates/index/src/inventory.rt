@@ -7,7 +7,7 @@ use crate::counts::Counts;
 use crate::layout::Layout;
 
 /// What an index counts, and where the parts of its store lie: what the steps of a call work by.
-// The set and the store are lent to each step beside it: a struct that holds a `&mut` takes no ghost field.
+// The set and the store are lent to each step beside it: in a struct, each step would have to say that the references stay.
 #[derive(Clone, Copy)]
 pub struct Inventory {
     pub layout: Layout,
