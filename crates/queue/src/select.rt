@@ -32,7 +32,8 @@ impl<'a> Heap<'a, Upper> {
     pub fn threshold(&self) -> Option<u32>
         ensures { MatchOption result ((self.now.len < length self.now.slots.now) ⊎ (self.now.len ≡ 0)) (λ v. Threshold (length self.now.slots.now) self.now.len v self.now.slots.now) }
     {
-        if self.len() < self.slots().len() {
+        let k = self.slots().len();
+        if self.len() < k {
             return None;
         }
         let top = self.peek()?;
