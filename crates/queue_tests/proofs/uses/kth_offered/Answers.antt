@@ -1,5 +1,6 @@
-use Rattle.std.proofs.Common.{◌≡◌, ℕ, ◌<◌, ◌≤◌, ◌⊎◌, List, [], length, take, Some, None, Option, sym, ap, subst, inr, ⊎_elim, arith, MatchOption}
+use Rattle.std.proofs.Common.{◌≡◌, ℕ, ◌<◌, ◌≤◌, ◌⊎◌, List, [], length, take, Some, None, Option, sym, ap, subst, inl, inr, ⊎_elim, arith, MatchOption}
 use Rattle.std.proofs.lemmas.List.{take_all, length-take-le}
+use Rattle.std.proofs.lemmas.Bool.{cases_eq}
 use Rattle.queue.specs.Selection.{Kept, KthLeast, Threshold}
 use Rattle.queue.specs.declared.rank.Upper.{Upper}
 use Rattle.queue.proofs.KLeast.{none_kept}
@@ -15,7 +16,7 @@ kth : (k n : ℕ) (p : List ℕ) (xs : List Upper) (r : Option ℕ) → length x
 kth k n p xs None long le was h =
     let z = was.size in
     let l = length-take-le n xs le in
-    ⊎_elim (λ a. inr (omega arith)) (λ e. omega arith) h
+    ⊎_elim (λ a. inr (omega arith)) (λ e. ⊎_elim (λ q. inl q) (λ q. inr (omega arith)) (cases_eq k 0)) h
 kth k n p xs (Some v) long le was h = subst (λ j. KthLeast j v p) long (h.kth p (subst (λ j. Kept j p (take n xs)) (sym long) was)).0
 
 pub returns : goal.returns
