@@ -255,10 +255,6 @@ pub record Keeping (n : ℕ) (p : List ℕ) (xs ys : List Upper) : Type 0 where
 pub keep_begins : (n : ℕ) (xs ys : List Upper) → n ≡ 0 → ys ≡ xs → Keeping n [] xs ys
 keep_begins n xs ys z same = subst (λ m. Keeping m [] xs ys) (sym z) (record { long = ap length same; kept = none_kept (length xs) })
 
-pub keep_steps : (n m x : ℕ) (p : List ℕ) (xs ys zs : List Upper) → length zs ≡ length ys → Offered (length ys) n x ys m zs → Keeping n p xs ys → Keeping m (p ++ x ∷ []) xs zs
-keep_steps n m x p xs ys zs long h was =
-    record { long = long ∙ was.long; kept = subst (λ j. Kept j (p ++ x ∷ []) (take m zs)) was.long (h.keeps p (subst (λ j. Kept j p (take n ys)) (sym was.long) was.kept)) }
-
 pub selects : (n : ℕ) (p : List ℕ) (xs ys zs : List Upper) (r : Option ℕ) → ys ≡ zs → length xs ≤ length p → n ≤ length ys → Keeping n p xs ys → MatchOption r ((n < length ys) ⊎ (n ≡ 0)) (λ v. Threshold (length ys) n v ys) → MatchOption r (length xs ≡ 0) (λ v. Selected (length xs) v p xs zs)
 selects n p xs ys zs None same enough le was h =
     let z = was.kept.size in
