@@ -1,19 +1,17 @@
 -- What one number more does to the k least so far, and what the first of them is.
-use Rattle.std.proofs.Common.{◌≡◌, ℕ, ◌+◌, ◌-◌, ◌<◌, ◌≤◌, min, Bool, cond, ltb, leb, List, [], ◌∷◌, ◌++◌, length, get_or, take, drop, sym, refl, ap, ◌∙◌, subst, ⊎_elim, not-suc-le-zero, arith, le-ltb, le-leb}
+use Rattle.std.proofs.Common.{◌≡◌, ℕ, ◌+◌, ◌-◌, ◌<◌, ◌≤◌, ◌⊎◌, min, Option, None, Some, MatchOption, Result, Ok, Err, MatchResult, Bool, cond, ltb, leb, List, [], ◌∷◌, ◌++◌, length, get_or, take, drop, sym, refl, ap, ◌∙◌, subst, subst₂, inl, ⊎_elim, not-suc-le-zero, arith, le-ltb, le-leb}
 use Rattle.std.specs.List.Sorted.{IsPermutation, IsNonDecreasing}
 use Rattle.std.specs.List.{AllByRecursion as Every}
 use Rattle.std.proofs.lemmas.Bool.Decides.{nat_tests}
 use Rattle.std.proofs.lemmas.Bool.{cases_order}
-use Rattle.std.proofs.lemmas.List.{append_assoc, append-nil, length-append, length-map, length_push, length-take-le, length-drop, get_or-take, get_or-drop, nil_from_length, drop-drop}
+use Rattle.std.proofs.lemmas.List.{append_assoc, append-nil, length-append, length-map, length_push, length-take-le, length-drop, get_or-take, get_or-drop, nil_from_length, take_all, take_at, drop_at, drop_all, take-append-le, take-append-drop, drop-append-le}
 use Rattle.std.proofs.ByRecursion.{All-append, All-from_get_or, All-map, All-weaker, all_shuffled}
 use Rattle.std.proofs.lemmas.List.Sums.{sum_by-cons, sum_by-append, sum_by-take-drop, sum_by-take-le, count_by-le-length}
-use Rattle.std.proofs.lemmas.List.Sorted.{IsPermutation-refl, IsPermutation-sym, IsPermutation-trans, IsPermutation-cons, IsPermutation-to_front, length_permutation, sum_by-IsPermutation}
+use Rattle.std.proofs.lemmas.List.Sorted.{IsPermutation-refl, IsPermutation-sym, IsPermutation-trans, IsPermutation-cons, IsPermutation-map, IsPermutation-append_left, IsPermutation-to_front, length_permutation, sum_by-IsPermutation}
 use Rattle.queue.specs.Kinds.{Descending}
-use Rattle.queue.specs.Heaps.{Heaped, Least, Outside, Pushed, Peeked}
-use Rattle.queue.specs.Selection.{below, at_most, numbers, KthLeast, Kept, Offered, Threshold, Selected}
-use Rattle.queue.specs.Steps.{Taken, Passed, Displaced, KeptAll}
+use Rattle.queue.specs.Heaps.{Heaped, Least, Pushed, Peeked, Replaced}
+use Rattle.queue.specs.Selection.{below, at_most, numbers, KthLeast, Only, Kept, Offered, Threshold, Selected}
 use Rattle.queue.specs.declared.rank.Upper.{Upper}
-use Rattle.queue.proofs.Shuffles.{shuffled_map, shuffled_before}
 
 -- y is at least each of the numbers
 abbrev Over : List ℕ → ℕ → Type 0
@@ -23,7 +21,7 @@ length_numbers : (us : List Upper) → length (numbers us) ≡ length us
 length_numbers us = length-map us (λ u. u.0)
 
 shuffled_numbers : (us vs : List Upper) → IsPermutation us vs → IsPermutation (numbers us) (numbers vs)
-shuffled_numbers us vs s = shuffled_map (λ u. u.0) us vs s
+shuffled_numbers us vs s = IsPermutation-map (λ u. u.0) us vs s
 
 pub none_kept : (k : ℕ) → Kept k [] []
 unfolding Heaped
@@ -36,7 +34,7 @@ module _ (k x : ℕ) (p : List ℕ) (us vs : List Upper) (out : List ℕ) (was :
     size = n ∙ ap (min k) (sym (length_push p x));
     others = out ++ was.others;
     items = subst (IsPermutation (p ++ x ∷ [])) (append_assoc (numbers vs) out was.others)
-        (IsPermutation-trans _ _ _ (IsPermutation-to_front p x) (IsPermutation-trans _ _ _ (IsPermutation-cons x _ _ was.items) (shuffled_before was.others _ _ s)));
+        (IsPermutation-trans _ _ _ (IsPermutation-to_front p x) (IsPermutation-trans _ _ _ (IsPermutation-cons x _ _ was.items) (IsPermutation-append_left was.others _ _ s)));
     least = All-append _ out was.others a b;
     heap = h;
   }
@@ -65,13 +63,13 @@ others_over us t others l e a = All-weaker (Over (numbers us)) (λ y. t.0 ≤ y)
 over_over : (xs : List ℕ) (v : ℕ) (others : List ℕ) → Over xs v → Every (λ y. v ≤ y) others → Every (Over xs) others
 over_over xs v others a b = All-weaker (λ y. v ≤ y) (Over xs) (λ y h. All-weaker (λ x. x ≤ v) (λ x. x ≤ y) (λ x g. omega arith) xs a) others b
 
--- the ways of `take_in`
-module _ (k n x : ℕ) (xs : List Upper) (le : n ≤ k) (room : k ≤ length xs) where
+-- the ways of `KLeast::offer`: x is let in where fewer than k are kept, and is held against the greatest of them where k are
+module _ (k n m x : ℕ) (xs ys : List Upper) (le : n ≤ k) (room : k ≤ length xs) (long : length ys ≡ length xs) where
   front : length (take n xs) ≡ n
   front = length-take-le n xs (omega arith)
 
-  pub takes : (u : Upper) (ys : List Upper) → u.0 ≡ x → n < k → length ys ≡ length xs → Pushed Descending n u xs ys → Offered k n x xs (n + 1) ys
-  takes u ys e lt long h =
+  takes : (u : Upper) → u.0 ≡ x → m ≡ n + 1 → n < k → Pushed Descending n u xs ys → Offered k n x xs m ys
+  takes u e next lt h = subst (λ j. Offered k n x xs j ys) (sym next) (
       let s : IsPermutation (x ∷ numbers (take n xs)) (numbers (take (n + 1) ys) ++ []) =
       subst (IsPermutation (x ∷ numbers (take n xs))) (sym (append-nil (numbers (take (n + 1) ys)))) (subst (λ y. IsPermutation (y ∷ numbers (take n xs)) (numbers (take (n + 1) ys))) e (shuffled_numbers _ _ h.items)) in
       let f = front in
@@ -88,64 +86,67 @@ module _ (k n x : ℕ) (xs : List Upper) (le : n ≤ k) (room : k ≤ length xs)
             kept_next k x p (take n xs) (take (n + 1) ys) [] was s (omega arith) tt
             (subst (Every (Over (numbers (take (n + 1) ys)))) (sym (none_out k p (take n xs) was (omega arith))) tt) (h.heap was.heap);
       }
+      )
 
-  stays : (ys : List Upper) → n ≡ k → ys ≡ xs → (Heaped Descending (take n xs) → Over (numbers (take n xs)) x) → Offered k n x xs n ys
-  stays ys full same over =
-      let l = numbers (take n xs) in
-      let s : IsPermutation (x ∷ l) (l ++ x ∷ []) = IsPermutation-sym _ _ (IsPermutation-to_front l x) in
-      let f = front in
-      subst (Offered k n x xs n) (sym same) (record {
-        fits = le;
-        room = room;
-        size = omega arith;
-        dropped = x ∷ [];
-        items = s;
-        rest = refl;
-        keeps = λ p was. let z = was.size in kept_next k x p (take n xs) (take n xs) (x ∷ []) was s (omega arith) (over was.heap, tt) was.least was.heap;
-      })
+  pub let_in : {E : Type 0} (u : Upper) (r : Result (Unit {0}) E) → u.0 ≡ x → n < k → MatchResult r (λ _. Pushed Descending n u xs ys × (m ≡ n + 1)) (λ _. (length xs ≡ n) × (ys ≡ xs) × (m ≡ n)) → Offered k n x xs m ys
+  let_in u (Ok w) e lt h = takes u e h.1 lt h.0
+  let_in u (Err w) e lt h = absurd (omega (arith, h.0))
 
-  pub outside : (ys : List Upper) → n ≡ k → ys ≡ xs → Outside n xs → Offered k n x xs n ys
-  outside ys full same h = ⊎_elim
-      (λ z. stays ys full same (λ _. subst (λ m. Over (numbers (take m xs)) x) (sym z) tt))
-      (λ l. absurd (omega arith)) h
+  module _ (same_count : m ≡ n) (full : n ≡ k) where
+    stays : ys ≡ xs → (Heaped Descending (take n xs) → Over (numbers (take n xs)) x) → Offered k n x xs m ys
+    stays same over =
+        let l = numbers (take n xs) in
+        let s : IsPermutation (x ∷ l) (l ++ x ∷ []) = IsPermutation-sym _ _ (IsPermutation-to_front l x) in
+        let f = front in
+        subst (λ j. Offered k n x xs j ys) (sym same_count) (subst (Offered k n x xs n) (sym same) (record {
+          fits = le;
+          room = room;
+          size = omega arith;
+          dropped = x ∷ [];
+          items = s;
+          rest = refl;
+          keeps = λ p was. let z = was.size in kept_next k x p (take n xs) (take n xs) (x ∷ []) was s (omega arith) (over was.heap, tt) was.least was.heap;
+        }))
 
-  -- the first of the whole is the first of the part
-  first : (t : Upper) → Peeked Descending n t xs → t ≡ get_or (take n xs) 0 t
-  first t h = h.is t ∙ sym (get_or-take n xs 0 t h.some)
+    pub outside : ys ≡ xs → n ≡ 0 → Offered k n x xs m ys
+    outside same z = stays same (λ _. subst (λ j. Over (numbers (take j xs)) x) (sym z) tt)
 
-  pub passes : (ys : List Upper) → n ≡ k → Passed n x xs ys → Offered k n x xs n ys
-  passes ys full h =
-      let t = h.top in
-      stays ys full h.same (λ heap. All-weaker (λ y. y ≤ t.0) (λ y. y ≤ x) (λ y g. omega (arith, h.least)) (numbers (take n xs)) (all_under (take n xs) t (h.first.least heap)))
+    module _ (t : Upper) (top : Peeked Descending n t xs) where
+      pub passes : ys ≡ xs → t.0 ≤ x → Offered k n x xs m ys
+      passes same least =
+          stays same (λ heap. All-weaker (λ y. y ≤ t.0) (λ y. y ≤ x) (λ y g. omega arith) (numbers (take n xs)) (all_under (take n xs) t (top.least heap)))
 
-  pub displaces : (ys : List Upper) → n ≡ k → length ys ≡ length xs → Taken n x xs ys → Offered k n x xs n ys
-  displaces ys full long h =
-      let r = h.replaced in
-      let t = h.old in
-      let e = h.is in
-      let same : h.top.0 ≡ t.0 = ap (λ (w : Upper). w.0) (h.first.is t ∙ sym (r.top.is t)) in
-      let less : x < t.0 = omega (arith, h.less) in
-      let some = r.top.some in
-      let f = front in
-      let g : length (take n ys) ≡ n = length-take-le n ys (omega arith) in
-      let mapped : IsPermutation (x ∷ numbers (take n xs)) (t.0 ∷ numbers (take n ys)) = subst (λ y. IsPermutation (y ∷ numbers (take n xs)) (t.0 ∷ numbers (take n ys))) e (shuffled_numbers _ _ r.items) in
-      let s : IsPermutation (x ∷ numbers (take n xs)) (numbers (take n ys) ++ t.0 ∷ []) = IsPermutation-trans _ _ _ mapped (IsPermutation-sym _ _ (IsPermutation-to_front (numbers (take n ys)) t.0)) in
-      record {
-        fits = le;
-        room = room;
-        size = omega arith;
-        dropped = t.0 ∷ [];
-        items = s;
-        rest = r.rest;
-        keeps = λ p was.
-            let z = was.size in
-            let under : Over (numbers (take n ys)) t.0 = (all_shuffled (λ y. y ≤ t.0) _ _ mapped (omega arith, all_under (take n xs) t (r.top.least was.heap))).1 in
-            kept_next k x p (take n xs) (take n ys) (t.0 ∷ []) was s (omega arith) (under, tt)
-            (over_over _ t.0 was.others under (others_over (take n xs) t was.others (omega arith) (first t r.top) was.least)) (r.heap was.heap);
-      }
+      -- the first of the whole is the first of the part
+      first : t ≡ get_or (take n xs) 0 t
+      first = top.is t ∙ sym (get_or-take n xs 0 t top.some)
 
-  pub offers : (ys : List Upper) → n ≡ k → length ys ≡ length xs → Displaced n x xs ys → Offered k n x xs n ys
-  offers ys full long = ⊎_elim (λ h. outside ys full h.1 h.0) (⊎_elim (passes ys full) (displaces ys full long))
+      displaced : (u t' : Upper) → u.0 ≡ x → x < t.0 → Replaced Descending n u t' xs ys → Offered k n x xs m ys
+      displaced u t' e less r = subst (λ j. Offered k n x xs j ys) (sym same_count) (
+          let same : t' ≡ t = r.top.is t ∙ sym (top.is t) in
+          let some = top.some in
+          let f = front in
+          let g : length (take n ys) ≡ n = length-take-le n ys (omega arith) in
+          let mapped : IsPermutation (x ∷ numbers (take n xs)) (t.0 ∷ numbers (take n ys)) =
+          subst (λ (w : Upper). IsPermutation (x ∷ numbers (take n xs)) (w.0 ∷ numbers (take n ys))) same (subst (λ y. IsPermutation (y ∷ numbers (take n xs)) (t'.0 ∷ numbers (take n ys))) e (shuffled_numbers _ _ r.items)) in
+          let s : IsPermutation (x ∷ numbers (take n xs)) (numbers (take n ys) ++ t.0 ∷ []) = IsPermutation-trans _ _ _ mapped (IsPermutation-sym _ _ (IsPermutation-to_front (numbers (take n ys)) t.0)) in
+          record {
+            fits = le;
+            room = room;
+            size = omega arith;
+            dropped = t.0 ∷ [];
+            items = s;
+            rest = r.rest;
+            keeps = λ p was.
+                let z = was.size in
+                let under : Over (numbers (take n ys)) t.0 = (all_shuffled (λ y. y ≤ t.0) _ _ mapped (omega arith, all_under (take n xs) t (top.least was.heap))).1 in
+                kept_next k x p (take n xs) (take n ys) (t.0 ∷ []) was s (omega arith) (under, tt)
+                (over_over _ t.0 was.others under (others_over (take n xs) t was.others (omega arith) first was.least)) (r.heap was.heap);
+          }
+          )
+
+      pub displaces : (u : Upper) (r : Option Upper) → u.0 ≡ x → x < t.0 → MatchOption r ((n ≡ 0) × (ys ≡ xs)) (λ t'. Replaced Descending n u t' xs ys) → Offered k n x xs m ys
+      displaces u None e less h = let some = top.some in absurd (omega (arith, h.0))
+      displaces u (Some t') e less h = displaced u t' e less h
 
 -- counting
 abbrev one : Bool → ℕ
@@ -246,37 +247,69 @@ threshold_is k n t xs full h =
           (kth, λ w q. kth_unique k w t.0 p q kth);
     }
 
-drop_later : {X : Type 0} (a b : ℕ) (xs ys : List X) → a ≤ b → drop a ys ≡ drop a xs → drop b ys ≡ drop b xs
-drop_later a b xs ys le e =
-    let s : a + (b - a) ≡ b = omega arith in
-    ap (λ m. drop m ys) (sym s) ∙ sym (drop-drop (b - a) a ys) ∙ ap (drop (b - a)) e ∙ drop-drop (b - a) a xs ∙ ap (λ m. drop m xs) s
-
--- `keep_least`: the first n of ys are kept of the numbers p so far, and ys was xs
-pub record Keeping (k n : ℕ) (p : List ℕ) (xs ys : List Upper) : Type 0 where
+-- `select`: the first n of ys are kept of the numbers p so far
+pub record Keeping (n : ℕ) (p : List ℕ) (xs ys : List Upper) : Type 0 where
   pub long : length ys ≡ length xs
-  pub fits : n ≤ k
-  pub kept : Kept k p (take n ys)
-  pub rest : drop k ys ≡ drop k xs
+  pub kept : Kept (length xs) p (take n ys)
 
-pub keep_begins : (k n : ℕ) (p : List ℕ) (xs : List Upper) → n ≡ 0 → p ≡ [] → Keeping k n p xs xs
-keep_begins k n p xs z e = subst (λ m. Keeping k m p xs xs) (sym z) (subst (λ l. Keeping k 0 l xs xs) (sym e) (record { long = refl; fits = omega arith; kept = none_kept k; rest = refl }))
+pub keep_begins : (n : ℕ) (xs ys : List Upper) → n ≡ 0 → ys ≡ xs → Keeping n [] xs ys
+keep_begins n xs ys z same = subst (λ m. Keeping m [] xs ys) (sym z) (record { long = ap length same; kept = none_kept (length xs) })
 
-pub keep_steps : (k n m x : ℕ) (p : List ℕ) (xs ys zs : List Upper) → length zs ≡ length ys → Offered k n x ys m zs → Keeping k n p xs ys → Keeping k m (p ++ x ∷ []) xs zs
-keep_steps k n m x p xs ys zs long h was =
-    let z = h.size in
-    record { long = long ∙ was.long; fits = omega arith; kept = h.keeps p was.kept; rest = drop_later m k ys zs (omega arith) h.rest ∙ was.rest }
-
-kept_all : (k n : ℕ) (p : List ℕ) (xs ys : List Upper) → k ≤ length p → k ≤ length xs → Keeping k n p xs ys → n ≡ k
-kept_all k n p xs ys enough room was =
+pub selects : (n : ℕ) (p : List ℕ) (xs ys zs : List Upper) (r : Option ℕ) → ys ≡ zs → length xs ≤ length p → n ≤ length ys → Keeping n p xs ys → MatchOption r ((n < length ys) ⊎ (n ≡ 0)) (λ v. Threshold (length ys) n v ys) → MatchOption r (length xs ≡ 0) (λ v. Selected (length xs) v p xs zs)
+selects n p xs ys zs None same enough le was h =
     let z = was.kept.size in
-    let fits = was.fits in
-    let l = length-take-le n ys (omega (arith, was.long)) in
-    omega arith
+    let long = was.long in
+    let l = length-take-le n ys le in
+    ⊎_elim (λ a. absurd (omega arith)) (λ b. omega arith) h
+selects n p xs ys zs (Some v) same enough le was h = subst (Selected (length xs) v p xs) same (
+    let full = h.full in
+    let long = was.long in
+    let all : take n ys ≡ take (length xs) ys = take_all n ys (omega arith) ∙ sym (take_all (length xs) ys (omega arith)) in
+    let kth = h.kth p (subst (λ j. Kept j p (take n ys)) (sym long) was.kept) in
+    record {
+      room = omega arith;
+      kth = subst (λ j. KthLeast j v p) long kth.0;
+      only = subst (λ j. Only j v p) long kth.1;
+      kept = subst (Kept (length xs) p) all was.kept;
+      rest = drop_all (length xs) ys (omega arith) ∙ sym (drop_all (length xs) xs (omega arith));
+    }
+    )
 
-pub all_kept : (k n : ℕ) (p : List ℕ) (xs ys : List Upper) → k ≤ length p → k ≤ length xs → Keeping k n p xs ys → KeptAll k p xs ys
-all_kept k n p xs ys enough room was = record { kept = subst (λ m. Kept k p (take m ys)) (kept_all k n p xs ys enough room was) was.kept; rest = was.rest }
+-- from the first m of xs to all of them
+pub selected_in_front : (k m : ℕ) (p : List ℕ) (xs ys : List Upper) (r : Option ℕ) (P : Type 0) → k ≡ m → 0 < m → m ≤ length xs → length ys ≡ length (take m xs) → MatchOption r (length (take m xs) ≡ 0) (λ v. Selected (length (take m xs)) v p (take m xs) ys) → MatchOption r P (λ v. Selected k v p xs (ys ++ drop m xs))
+selected_in_front k m p xs ys None P e some room long h = let l = length-take-le m xs room in absurd (omega arith)
+selected_in_front k m p xs ys (Some v) P e some room long h = subst (λ j. Selected j v p xs (ys ++ drop m xs)) (sym e) (
+    let l : length (take m xs) ≡ m = length-take-le m xs room in
+    let g : length ys ≡ m = long ∙ l in
+    let front : take (length (take m xs)) ys ≡ take m (ys ++ drop m xs) = take_all (length (take m xs)) ys (omega arith) ∙ sym (take_at ys (drop m xs) m g) in
+    record {
+      room = room;
+      kth = subst (λ j. KthLeast j v p) l h.kth;
+      only = subst (λ j. Only j v p) l h.only;
+      kept = subst₂ (λ j s. Kept j p s) l front h.kept;
+      rest = drop_at ys (drop m xs) m g;
+    }
+    )
 
-pub selected : (k : ℕ) (values : List ℕ) (t : Upper) (xs ys : List Upper) → k ≤ length xs → KeptAll k values xs ys → Peeked Descending k t ys → Selected k t.0 values xs ys
-selected k values t xs ys room was h =
-    let kth = (threshold_is k k t ys (omega arith) h).kth values was.kept in
-    record { room = room; kth = kth.0; only = kth.1; kept = was.kept; rest = was.rest }
+pub offered_in_front : (k n m x : ℕ) (xs ys : List Upper) (r : Option ℕ) → k ≡ m → m ≤ length xs → length ys ≡ length (take m xs)
+    → MatchOption r ((length (take m xs) < n) × (ys ≡ take m xs)) (λ j. Offered (length (take m xs)) n x (take m xs) j ys)
+    → MatchOption r (((k < n) ⊎ (length xs < k)) × (ys ++ drop m xs ≡ xs)) (λ j. Offered k n x xs j (ys ++ drop m xs))
+offered_in_front k n m x xs ys None e room long h =
+    let l : length (take m xs) ≡ m = length-take-le m xs room in
+    (inl (omega (arith, h.0)), ap (λ l. l ++ drop m xs) h.1 ∙ take-append-drop m xs)
+offered_in_front k n m x xs ys (Some j) e room long h = subst (λ i. Offered i n x xs j (ys ++ drop m xs)) (sym e) (
+    let l : length (take m xs) ≡ m = length-take-le m xs room in
+    let fits = h.fits in
+    let z = h.size in
+    let front : take n (take m xs) ≡ take n xs = sym (take-append-le n (take m xs) (drop m xs) (omega arith)) ∙ ap (take n) (take-append-drop m xs) in
+    let back : take j (ys ++ drop m xs) ≡ take j ys = take-append-le j ys (drop m xs) (omega arith) in
+    record {
+      fits = omega arith;
+      room = room;
+      size = omega arith;
+      dropped = h.dropped;
+      items = subst₂ (λ a b. IsPermutation (x ∷ numbers a) (numbers b ++ h.dropped)) front (sym back) h.items;
+      rest = drop-append-le j ys (drop m xs) (omega arith) ∙ ap (λ l. l ++ drop m xs) h.rest ∙ sym (drop-append-le j (take m xs) (drop m xs) (omega arith)) ∙ ap (drop j) (take-append-drop m xs);
+      keeps = λ p was. subst₂ (λ i s. Kept i (p ++ x ∷ []) s) l (sym back) (h.keeps p (subst₂ (λ i s. Kept i p s) (sym l) (sym front) was));
+    }
+    )

@@ -1,16 +1,7 @@
 -- Laws of orders: what a record kind in another crate may cite for its own.
-use Rattle.std.proofs.Common.{◌≡◌, ℕ, ◌≤◌, Bool, true, false, eqb, ◌⊎◌, sym, refl, ◌∙◌, subst, inl, inr, ⊎_elim, arith, eqb-true}
-use borrow.Author.Tests.{eqb-false}
+use Rattle.std.proofs.Common.{◌≡◌, ℕ, ◌≤◌, ◌⊎◌, sym, refl, ◌∙◌, subst, inl, inr, ⊎_elim, arith}
 use Rattle.std.proofs.lemmas.Bool.{cases_order}
 use Rattle.queue.specs.Orders.{ThenBy, Lex}
-
--- two numbers are equal or not
-pub which : (a b : ℕ) → (a ≡ b) ⊎ (a ≡ b → ⊥)
-which a b = by_test (eqb a b) refl
-  where
-    by_test : (s : Bool) → eqb a b ≡ s → (a ≡ b) ⊎ (a ≡ b → ⊥)
-    by_test true p = inl (eqb-true a b p)
-    by_test false p = inr (eqb-false a b p)
 
 -- the laws that the heap's proofs use
 pub record Order {X : Type 0} (R : X → X → Type 0) : Type 0 where

@@ -1,7 +1,7 @@
 //! A priority queue over a lent slice, for every record kind with a total order.
 //!
-//! A heap is a slice and a length: its records are in the first `len` slots, and the caller keeps `len`.
-//! Calls refuse where the slots are not there. They say what they keep of a heap for every slice:
+//! A heap has its records in the first `len` of its slots. Calls refuse where there is no slot or no record.
+//! They say what they keep of a heap for every slice, whoever wrote it:
 //! where the first `len` were a heap they are one after, and the record taken was the least.
 //!
 //! A crate queues a record kind of its own by an `impl Ranked`; proofs/Orders has laws to cite for an order of several numbers.

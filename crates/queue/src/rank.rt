@@ -4,6 +4,7 @@ ghost use Rattle.queue.specs.Orders.{Says};
 ghost use Rattle.queue.specs.Kinds.{Descending};
 ghost use Rattle.std.proofs.Common.{rules};
 
+// `Ord`, and `Reverse` of one, ask more of a record kind: that records which compare equal are equal in all they carry.
 /// A record kind in a total order.
 ///
 /// `before x y` says that x comes no later than y. `key` is what is ordered: a record may carry more.
@@ -28,7 +29,7 @@ pub trait Ranked: Copy {
 }
 
 /// A number by which the greatest comes first.
-#[derive(Clone, Copy)]
+#[derive(Clone, Copy, PartialEq, Eq, Debug)]
 pub struct Upper(pub u32);
 
 /// By number, the greatest first.

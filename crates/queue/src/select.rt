@@ -2,61 +2,53 @@
 ghost use Rattle.std.specs.Prelude.{◌≡◌, ◌<◌, ◌≤◌, ◌⊎◌, length, MatchOption};
 ghost use Rattle.queue.specs.Heaps.{Outside};
 ghost use Rattle.queue.specs.Selection.{Offered, Threshold, Selected};
-ghost use Rattle.queue.specs.Steps.{Displaced, KeptAll};
 
 use crate::heap;
+use crate::heap::Heap;
 use crate::rank::Upper;
 
-// Puts `x` in the place of the greatest of the first `len`, if it is less.
-fn displace(scratch: &mut [Upper], len: usize, x: u32)
-    ensures { Displaced len x scratch.old scratch.new }
-{
-    if let Some(top) = heap::peek(scratch, len) {
-        if x < top.0 {
-            heap::change_first(scratch, len, Upper(x));
+/// The k least of the numbers offered so far, in k lent slots, as a heap with the greatest first.
+pub type KLeast<'a> = Heap<'a, Upper>;
+
+impl<'a> Heap<'a, Upper> {
+    /// Takes one number more into the k least, where k is how many slots there are.
+    pub fn offer(&mut self, x: u32)
+        ensures same_reference { self.new.slots.ghost_name ≡ self.old.slots.ghost_name }
+        ensures slots { length self.new.slots.now ≡ length self.old.slots.now }
+        ensures offered { Offered (length self.old.slots.now) self.old.len x self.old.slots.now self.new.len self.new.slots.now }
+    {
+        if self.len() < self.slots().len() {
+            let _pushed = self.push(Upper(x));
+            return;
+        }
+        if let Some(top) = self.peek() {
+            if x < top.0 {
+                self.replace_top(Upper(x));
+            }
         }
     }
-}
 
-// Takes one number more into the k least, which are the first `len`, and says how many there are then.
-fn take_in(scratch: &mut [Upper], len: usize, k: usize, x: u32) -> usize
-    requires { (len ≤ k) × (k ≤ length scratch.old) }
-    ensures { Offered k len x scratch.old result scratch.new }
-{
-    if len < k {
-        heap::put(scratch, len, Upper(x));
-        return len + 1;
-    }
-    displace(scratch, len, x);
-    len
-}
-
-// Takes every number into the k least, which then are the first k.
-fn keep_least(values: &[u32], k: usize, scratch: &mut [Upper])
-    requires { (k ≤ length values.now) × (k ≤ length scratch.old) }
-    ensures { KeptAll k values.now scratch.old scratch.new }
-{
-    let mut len = 0;
-    for v in values {
-        len = take_in(scratch, len, k, *v);
+    /// The k-th least of the numbers offered so far; none where there are fewer than k, or k is 0.
+    pub fn threshold(&self) -> Option<u32>
+        ensures { MatchOption result ((self.now.len < length self.now.slots.now) ⊎ (self.now.len ≡ 0)) (λ v. Threshold (length self.now.slots.now) self.now.len v self.now.slots.now) }
+    {
+        let k = self.slots().len();
+        if self.len() < k {
+            return None;
+        }
+        let top = self.peek()?;
+        Some(top.0)
     }
 }
 
-// The k-th least: the greatest of the k least.
-fn select(values: &[u32], k: usize, scratch: &mut [Upper]) -> u32
-    requires { (0 < k) × (k ≤ length values.now) × (k ≤ length scratch.old) }
-    ensures { Selected k result values.now scratch.old scratch.new }
+// Takes one number more into the k least, which are in the first `len` of k slots, and says how many there are then.
+fn take_in(slots: &mut [Upper], len: usize, x: u32) -> Option<usize>
+    ensures { MatchOption result ((length slots.old < len) × (slots.new ≡ slots.old)) (λ m. Offered (length slots.old) len x slots.old m slots.new) }
 {
-    keep_least(values, k, scratch);
-    heap::first(scratch, k).0
-}
-
-// The greatest of the first `len`, of which there are k at least.
-fn greatest(scratch: &[Upper], len: usize, k: usize) -> u32
-    requires { (0 < len) × (k ≤ len) × (len ≤ length scratch.now) }
-    ensures { Threshold k len result scratch.now }
-{
-    heap::first(scratch, len).0
+    let mut least = KLeast::new(slots);
+    least.adopt(len).ok()?;
+    least.offer(x);
+    Some(least.len())
 }
 
 /// Takes one number more into the k least of those offered so far, which are in the first `len` slots, and says how many there are then;
@@ -64,20 +56,33 @@ fn greatest(scratch: &[Upper], len: usize, k: usize) -> u32
 pub fn offer(scratch: &mut [Upper], len: usize, k: usize, x: u32) -> Option<usize>
     ensures { MatchOption result (((k < len) ⊎ (length scratch.old < k)) × (scratch.new ≡ scratch.old)) (λ m. Offered k len x scratch.old m scratch.new) }
 {
-    if k < len || scratch.len() < k {
+    if scratch.len() < k {
         return None;
     }
-    Some(take_in(scratch, len, k, x))
+    take_in(&mut scratch[0..k], len, x)
 }
 
 /// The k-th least of the numbers offered so far, of which the k least are in the first `len` slots; none where there are fewer than k.
 pub fn threshold(scratch: &[Upper], len: usize, k: usize) -> Option<u32>
     ensures { MatchOption result ((len < k) ⊎ Outside len scratch.now) (λ v. Threshold k len v scratch.now) }
 {
-    if len < k || len == 0 || scratch.len() < len {
+    if len < k {
         return None;
     }
-    Some(greatest(scratch, len, k))
+    let top = heap::peek(scratch, len)?;
+    Some(top.0)
+}
+
+// The k-th least of the numbers, by k slots.
+fn select(values: &[u32], slots: &mut [Upper]) -> Option<u32>
+    requires { length slots.old ≤ length values.now }
+    ensures { MatchOption result (length slots.old ≡ 0) (λ v. Selected (length slots.old) v values.now slots.old slots.new) }
+{
+    let mut least = KLeast::new(slots);
+    for v in values {
+        least.offer(*v);
+    }
+    least.threshold()
 }
 
 /// The k-th least of the numbers, by the first k slots of the scratch; none, and no change, where there are not k numbers or slots, or k is 0.
@@ -87,5 +92,5 @@ pub fn kth_least(values: &[u32], k: usize, scratch: &mut [Upper]) -> Option<u32>
     if k == 0 || values.len() < k || scratch.len() < k {
         return None;
     }
-    Some(select(values, k, scratch))
+    select(values, &mut scratch[0..k])
 }

@@ -9,12 +9,12 @@ under : {X : Type 0} (r : Option X) (P : Type 0) (Q Q' : X → Type 0) → ((x :
 under None P Q Q' f h = h
 under (Some x) P Q Q' f h = f x h
 
-pub returns : goal.returns
-returns c =
-    let xs = c.args.slots.now in
-    let ys = c.replace_top.new.slots in
-    let n = c.args.len in
-    let top = c.in-Some.top in
+pub returns-clause-raised : goal.returns-clause-raised
+returns-clause-raised c =
+    let xs = c.args.heap.now.slots.now in
+    let ys = c.replace_top.new.self.slots.now in
+    let n = c.args.heap.now.len in
+    let top = c.in_ok-top.top in
     under c.replace_top.result _ _ _
-    (λ y h. subst (λ (z : Entry). Replaced ByBound n (rebound c.args.bound z) y xs ys) (same_top ByBound n n top y xs c.in-Some.ensures h.top) h)
-    c.replace_top.ensures
+    (λ y h. subst (λ (z : Entry). Replaced ByBound n (rebound c.args.bound z) y xs ys) (same_top ByBound n n top y xs c.in_ok-top.ensures h.top) h)
+    c.replace_top.ensures.replaced
