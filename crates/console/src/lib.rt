@@ -35,7 +35,10 @@ pub fn serve<S: ChannelSet>(
     match command {
         Command::Insert { accession, rows } => ("L", index.insert(store, accession, rows)),
         Command::Remove { accession } => ("U", index.remove(store, accession)),
-        Command::AddPivot { channel, accession } => ("P", index.add_pivot(store, channel, accession)),
+        Command::AddPivot { channel, accession } => (
+            "P",
+            index.add_pivot(store, channel, accession),
+        ),
         Command::RemovePivot { channel, pivot } => ("R", index.remove_pivot(store, channel, pivot)),
         Command::Nearest {
             aggregate: _,

@@ -30,6 +30,6 @@ returns-clause-session g c =
     let t = c.in_ok-turn.ensures.turn in (
       i.2.0 ++ t.0,
       subst (λ (f : Format). Session (few (g.S.ChannelSet.models c.args.index.now.set)) f (written c.args.index.now.counts c.args.store.now) c.args.input.now (i.2.0 ++ t.0) (written c.turn.new.index.counts c.turn.new.store)) c.new-reader.ensures.0
-      (come _ _ _ _ _ _ _ _ _ _ i.2.1 (turned _ _ _ _ _ _ _ _ _ _ false (ap few i.0) i.1 c.if-branch.false t.1)),
+          (come _ _ _ _ _ _ _ _ _ _ i.2.1 (turned _ _ _ _ _ _ _ _ _ _ false (ap few i.0) i.1 c.if-branch.false t.1)),
       t.2 ∙ ap (λ (l : List ℕ). l ++ t.0) i.2.2 ∙ append_assoc (string_bytes c.args.out.now) i.2.0 t.0,
     )
