@@ -1,5 +1,5 @@
 -- A run so far.
-use Rattle.std.proofs.Common.{◌≡◌, ℕ, ◌<◌, true, false, Bool, List, [], ◌++◌, length, sym, ap, subst, append_assoc, arith, length-append}
+use Rattle.std.proofs.Common.{◌≡◌, ℕ, ◌<◌, true, false, Bool, List, ◌++◌, length, sym, ap, subst, append_assoc, arith, length-append}
 use Rattle.metric.specs.Model.{Model}
 use Rattle.command.specs.declared.format.Format.{Format}
 use Rattle.command.specs.Commands.{Instruction, insert, remove, add_pivot, remove_pivot, nearest, encode}

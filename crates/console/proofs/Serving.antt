@@ -1,5 +1,5 @@
 -- What serving a command comes to.
-use Rattle.std.proofs.Common.{◌≡◌, ℕ, List, Some, None, Option, Result, sym, refl, ap, ◌∙◌, subst}
+use Rattle.std.proofs.Common.{◌≡◌, List, Some, None, Option, Result, sym, refl, ap, ◌∙◌, subst}
 use Rattle.refusal.specs.Refusals.{answered, code_of}
 use Rattle.refusal.specs.declared.Refusal.{Refusal}
 use Rattle.metric.specs.Model.{Model}
