@@ -57,11 +57,8 @@ threshold_found k m n us p (Some v) wanted long none le room h =
 -- ---- the second pass
 
 module _ (t : Tables) (w : List ℕ) (admits : ℕ → Bool) (xs : List Candidate) where
-  pub admits_none : Admits t w admits 0 0 xs xs
-  admits_none = record { few = omega arith; stand = λ j h. refl; heap = none_heaped ByBound xs 0 refl; sound = tt; live = IsPermutation-refl [] }
-
-  pub admits_at : (i n m : ℕ) (ys zs : List Candidate) → m ≡ n → zs ≡ ys → Admits t w admits i n xs ys → Admits t w admits i m xs zs
-  admits_at i n m ys zs e f h = subst (λ (q : ℕ). Admits t w admits i q xs zs) (sym e) (subst (λ (l : List Candidate). Admits t w admits i n xs l) (sym f) h)
+  pub admits_none : (n : ℕ) → n ≡ 0 → Admits t w admits 0 n xs xs
+  admits_none n none = subst (λ (m : ℕ). Admits t w admits 0 m xs xs) (sym none) (record { few = omega arith; stand = λ j h. refl; heap = none_heaped ByBound xs 0 refl; sound = tt; live = IsPermutation-refl [] })
 
   module _ (i n : ℕ) (ys : List Candidate) (was : Admits t w admits i n xs ys) where
     kept_yes : admits i ≡ true → filter admits (range_with_len 0 (i + 1)) ≡ filter admits (range_with_len 0 i) ++ i ∷ []

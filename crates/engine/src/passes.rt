@@ -1,5 +1,5 @@
 //! The two passes over the slots: one for the threshold, one for the candidates.
-ghost use Rattle.std.specs.Prelude.{◌≡◌, ◌<◌, ◌≤◌, ◌⊎◌, map, length, MatchOption};
+ghost use Rattle.std.specs.Prelude.{◌≡◌, ◌+◌, ◌<◌, ◌≤◌, ◌⊎◌, map, length, MatchOption};
 ghost use Rattle.std.specs.List.{range_with_len};
 ghost use Rattle.queue.specs.Heaps.{Pushed};
 ghost use Rattle.queue.specs.Selection.{KthLeast};
@@ -14,7 +14,7 @@ use crate::bounds::{extremes, unmeasured};
 use crate::records::{Candidate, Question};
 use crate::source::Source;
 use aggregate::{Aggregate, Weighted};
-use queue::heap;
+use queue::heap::Heap;
 use queue::rank::Upper;
 use queue::select::KLeast;
 
@@ -74,28 +74,30 @@ fn admissible(bound: Weighted, radius: Weighted, limit: Option<Weighted>) -> boo
     bound <= radius && limit.is_none_or(|most| bound <= most)
 }
 
-// Adds a slot's candidate to those in the first `len`.
+// Adds a slot's candidate to those that wait.
 fn enter<M, S: Source<M>>(
     source: &S,
     meter: &M,
     weights: &[u8],
     slot: usize,
     bound: Weighted,
-    candidates: &mut [Candidate],
-    len: usize,
+    candidates: &mut Heap<'_, Candidate>,
 )
     requires ready { S.ready source.now meter.now }
     requires slot { slot < (S.tables source.now meter.now).slots }
     requires few { (S.tables source.now meter.now).slots ≤ 4096 }
     requires weighable { Weighable (S.tables source.now meter.now) weights.now }
-    requires room { len < length candidates.old }
-    ensures { (x : Candidate) × Unmeasured (S.tables source.now meter.now) weights.now slot bound x × Pushed ByBound len x candidates.old candidates.new }
+    requires room { candidates.old.len < length candidates.old.slots.now }
+    ensures same_reference { candidates.new.slots.ghost_name ≡ candidates.old.slots.ghost_name }
+    ensures slots { length candidates.new.slots.now ≡ length candidates.old.slots.now }
+    ensures len { candidates.new.len ≡ candidates.old.len + 1 }
+    ensures entered { (x : Candidate) × Unmeasured (S.tables source.now meter.now) weights.now slot bound x × Pushed ByBound candidates.old.len x candidates.old.slots.now candidates.new.slots.now }
 {
     let x = unmeasured(source, meter, weights, slot, bound);
-    let _pushed = heap::push(candidates, len, x);
+    let _pushed = candidates.push(x);
 }
 
-// Makes the candidates of the admitted slots, a heap in the first slots of `candidates`, and says how many there are.
+// Makes the candidates of the admitted slots a heap in the slots of `candidates`, which hold the first bounds.
 // They are no more than the slots passed, so a slot's bound is read before its record is written over.
 pub(crate) fn admit<M, S: Source<M>>(
     source: &S,
@@ -103,22 +105,22 @@ pub(crate) fn admit<M, S: Source<M>>(
     weights: &[u8],
     radius: Weighted,
     limit: Option<Weighted>,
-    candidates: &mut [Candidate],
-) -> usize
+    candidates: &mut Heap<'_, Candidate>,
+)
     requires ready { S.ready source.now meter.now }
     requires few { (S.tables source.now meter.now).slots ≤ 4096 }
     requires weighable { Weighable (S.tables source.now meter.now) weights.now }
-    requires room { (S.tables source.now meter.now).slots ≤ length candidates.old }
-    ensures { Admits (S.tables source.now meter.now) weights.now (λ i. passes radius (plain limit) (bound_at candidates.old i)) (S.tables source.now meter.now).slots result candidates.old candidates.new }
+    requires room { (S.tables source.now meter.now).slots ≤ length candidates.old.slots.now }
+    requires none { candidates.old.len ≡ 0 }
+    ensures same_reference { candidates.new.slots.ghost_name ≡ candidates.old.slots.ghost_name }
+    ensures slots { length candidates.new.slots.now ≡ length candidates.old.slots.now }
+    ensures admitted { Admits (S.tables source.now meter.now) weights.now (λ i. passes radius (plain limit) (bound_at candidates.old.slots.now i)) (S.tables source.now meter.now).slots candidates.new.len candidates.old.slots.now candidates.new.slots.now }
 {
-    let mut len: usize = 0;
-    // By number: the heap grows at the front of the candidates that are still to be read.
+    // By number: the heap grows at the front of the slots that are still to be read.
     for slot in 0..source.slots(meter) {
-        let bound = candidates[slot].bound;
+        let bound = candidates.slots()[slot].bound;
         if admissible(bound, radius, limit) {
-            enter(source, meter, weights, slot, bound, candidates, len);
-            len += 1;
+            enter(source, meter, weights, slot, bound, candidates);
         }
     }
-    len
 }
