@@ -21,6 +21,11 @@ kept_same : {A : Type 0} (p q : A → Bool) (l : List A) → Every (λ a. p a �
 kept_same p q [] h = refl
 kept_same p q (a ∷ l) h = ap (λ b. cond b (a ∷ filter p l) (filter p l)) h.0 ∙ ap (λ r. cond (q a) (a ∷ r) r) (kept_same p q l h.1)
 
+-- the heap begins in the slots that hold the first bounds
+pub admitted_from : (t : Tables) (q : Question) (limit : Option ℕ) (n : ℕ) (xs xs' ys : List Candidate) → xs' ≡ xs
+    → Admits t q.weights (λ i. passes q.radius limit (bound_at xs' i)) t.slots n xs' ys → Admits t q.weights (λ i. passes q.radius limit (bound_at xs i)) t.slots n xs ys
+admitted_from t q limit n xs xs' ys e h = subst (λ (zs : List Candidate). Admits t q.weights (λ i. passes q.radius limit (bound_at zs i)) t.slots n zs ys) e h
+
 module _ (t : Tables) (q : Question) (limit : Option ℕ) (n : ℕ) (xs ys : List Candidate) (bounds : FirstBounds (family_of t q) t.slots xs)
     (found : limit ≡ threshold (family_of t q) q.k (slots_of t))
     (ad : Admits t q.weights (λ i. passes q.radius limit (bound_at xs i)) t.slots n xs ys) (room : n ≤ length ys) where
@@ -44,7 +49,7 @@ module _ (t : Tables) (q : Question) (limit : Option ℕ) (n : ℕ) (xs ys : Lis
       let e = ap length same in
       omega arith
 
-  pub stands_first : (old : List Neighbor) → Stands t q old ys old (record { waiting = n; named = 0; measured = 0 }) (begin (family_of t q) q.k q.radius (slots_of t))
+  pub stands_first : (old : List Neighbor) → Stands t q old n ys old (record { named = 0; measured = 0 }) (begin (family_of t q) q.k q.radius (slots_of t))
   stands_first old = record {
     within = room;
     heap = ad.heap;

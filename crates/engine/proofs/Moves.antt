@@ -8,7 +8,7 @@ use Rattle.std.proofs.ByRecursion.{All-get_or, All-from_get_or, All-map, All-wea
 use Rattle.std.proofs.lemmas.List.Sums.{sum_by-cons}
 use Rattle.std.proofs.lemmas.List.Sorted.{IsPermutation-refl, IsPermutation-sym, IsPermutation-trans, sum_by-IsPermutation}
 use Rattle.metric.specs.Channels.{Asked, AddsAt}
-use Rattle.queue.specs.Heaps.{Least, Outside, Peeked, Popped, Replaced}
+use Rattle.queue.specs.Heaps.{Least, Peeked, Popped, Replaced}
 use Rattle.queue.proofs.Shuffles.{shuffled_map}
 use Rattle.queue.proofs.Slots.{same_top}
 use Rattle.refine.specs.Orders.{number_first}
@@ -48,32 +48,29 @@ module _ (t : Tables) (q : Question) where
   after_bound u v (inl h) = omega arith
   after_bound u v (inr h) = omega (arith, h.0)
 
-  module _ (old : List Neighbor) (xs : List Candidate) (hs : List Neighbor) (p : Progress) (s : State ℕ) (st : Stands t q old xs hs p s) where
+  module _ (old : List Neighbor) (n : ℕ) (xs : List Candidate) (hs : List Neighbor) (p : Progress) (s : State ℕ) (st : Stands t q old n xs hs p s) where
     abbrev front : List Candidate
-    front = take p.waiting xs
+    front = take n xs
 
     -- a step that ends the run changes nothing
-    rests : (asked : Asked) {n : Next ℕ} → Move rule q.k q.budget s n → Rests t q s n hs hs p p asked asked
+    rests : (asked : Asked) {next : Next ℕ} → Move rule q.k q.budget s next → Rests t q s next hs hs p p asked asked
     rests asked m = record { move = m; hits = refl; progress = refl; asks = λ c x y h. h }
 
     pub is_full : (asked : Asked) → q.k ≤ p.named → Rests t q s done hs hs p p asked asked
     is_full asked h = rests asked (full (let e = st.named in omega arith))
 
-    pub is_empty : (asked : Asked) → Outside p.waiting xs → Rests t q s done hs hs p p asked asked
-    is_empty asked h = rests asked (dry (all_shuffled _ (map spot front) s.live (IsPermutation-sym s.live (map spot front) st.live) (subst (λ (n : ℕ). Every (λ c. rule.within (key_now rule c) ≡ false) (map spot (take n xs))) (sym none) tt)))
-      where
-        none : p.waiting ≡ 0
-        none = ⊎_elim (λ e. e) (λ l. absurd (let w = st.within in omega arith)) h
+    pub is_empty : (asked : Asked) → n ≡ 0 → Rests t q s done hs hs p p asked asked
+    is_empty asked none = rests asked (dry (all_shuffled _ (map spot front) s.live (IsPermutation-sym s.live (map spot front) st.live) (subst (λ (m : ℕ). Every (λ c. rule.within (key_now rule c) ≡ false) (map spot (take m xs))) (sym none) tt)))
 
-    module _ (top : Candidate) (pk : Peeked ByBound p.waiting top xs) where
-      long : length front ≡ p.waiting
-      long = length-take-le p.waiting xs st.within
+    module _ (top : Candidate) (pk : Peeked ByBound n top xs) where
+      long : length front ≡ n
+      long = length-take-le n xs st.within
 
       some : 0 < length front
       some = let e = long in let z = pk.some in omega arith
 
       first : get_or front 0 no_candidate ≡ top
-      first = get_or-take p.waiting xs 0 no_candidate pk.some ∙ sym (pk.is no_candidate)
+      first = get_or-take n xs 0 no_candidate pk.some ∙ sym (pk.is no_candidate)
 
       pub fine : Fine top
       fine = subst Fine first (All-get_or Fine front 0 no_candidate some st.coherent)
@@ -117,14 +114,14 @@ module _ (t : Tables) (q : Question) where
         pub is_halted : (asked : Asked) → (top.measured ≡ t.channels → ⊥) → q.budget ≤ p.measured → Rests t q s halt hs hs p p asked asked
         is_halted asked ne h = rests asked (halts (spot top) (map spot rest) (chosen rest own) (let e = st.named in omega arith) inside ne (let e = st.measured in omega arith))
 
-        pub is_named : (y : Candidate) (ys : List Candidate) (hs' : List Neighbor) (p' : Progress) (asked : Asked) → p.named < length hs → length ys ≡ length xs
-            → top.measured ≡ t.channels → Popped ByBound p.waiting y xs ys → hs' ≡ set hs p.named (record { accession = top.accession; distance = top.bound })
-            → p' ≡ record { waiting = p.waiting - 1; named = p.named + 1; measured = p.measured } → Goes t q s old xs ys hs' p p' asked asked
-        is_named y ys hs' p' asked room keeps whole pop eh ep = subst (λ (r : Progress). Goes t q s old xs ys hs' p r asked asked) (sym ep) (record {
+        pub is_named : (y : Candidate) (m : ℕ) (ys : List Candidate) (hs' : List Neighbor) (p' : Progress) (asked : Asked) → p.named < length hs → m ≤ length ys → m ≡ n - 1
+            → top.measured ≡ t.channels → Popped ByBound n y xs ys → hs' ≡ set hs p.named (record { accession = top.accession; distance = top.bound })
+            → p' ≡ record { named = p.named + 1; measured = p.measured } → Goes t q s old n m xs ys hs' p p' asked asked
+        is_named y m ys hs' p' asked room keeps fewer whole pop eh ep = subst (λ (i : ℕ). Goes t q s old n i xs ys hs' p p' asked asked) (sym fewer) (subst (λ (r : Progress). Goes t q s old n (n - 1) xs ys hs' p r asked asked) (sym ep) (record {
           next = naming s (spot top) (map spot R);
           move = names (spot top) (map spot R) (chosen R sh) (let e = st.named in omega arith) inside whole;
           stands = record {
-            within = let w = st.within in omega arith;
+            within = omega arith;
             heap = pop.heap st.heap;
             coherent = fine_rest R sh;
             live = IsPermutation-refl (map spot R);
@@ -139,13 +136,13 @@ module _ (t : Tables) (q : Question) where
           };
           asks = λ c x z h. inl h;
           less = let e = less_by R sh in omega arith;
-        })
+        }))
           where
             R : List Candidate
-            R = take (p.waiting - 1) ys
+            R = take (n - 1) ys
 
             sh : IsPermutation front (top ∷ R)
-            sh = subst (λ (z : Candidate). IsPermutation front (z ∷ R)) (sym (same_top ByBound p.waiting p.waiting top y xs pk pop.top)) pop.items
+            sh = subst (λ (z : Candidate). IsPermutation front (z ∷ R)) (sym (same_top ByBound n n top y xs pk pop.top)) pop.items
 
             new : Neighbor
             new = record { accession = top.accession; distance = top.bound }
@@ -159,19 +156,19 @@ module _ (t : Tables) (q : Question) where
             past : p.named < length old
             past = let e = ap length st.hits in let l = length-append (map (hit t q) s.named) (drop p.named old) in let d = length-drop p.named old in let c = count in omega arith
 
-        pub is_measured : (x y : Candidate) (ys : List Candidate) (p' : Progress) (asked asked' : Asked) → length ys ≡ length xs
-            → (top.measured ≡ t.channels → ⊥) → p.measured < q.budget → Advanced t q.weights q.aggregate top x → Replaced ByBound p.waiting x y xs ys
-            → p' ≡ record { waiting = p.waiting; named = p.named; measured = p.measured + 1 }
+        pub is_measured : (x y : Candidate) (m : ℕ) (ys : List Candidate) (p' : Progress) (asked asked' : Asked) → m ≤ length ys → m ≡ n
+            → (top.measured ≡ t.channels → ⊥) → p.measured < q.budget → Advanced t q.weights q.aggregate top x → Replaced ByBound n x y xs ys
+            → p' ≡ record { named = p.named; measured = p.measured + 1 }
             → AddsAt asked asked' (get_or top.order top.measured 0) (t.left top.slot (get_or top.order top.measured 0)) (t.right top.slot (get_or top.order top.measured 0))
-            → Goes t q s old xs ys hs p p' asked asked'
-        is_measured x y ys p' asked asked' keeps ne afford adv rep ep adds = subst (λ (r : Progress). Goes t q s old xs ys hs p r asked asked') (sym ep) (record {
+            → Goes t q s old n m xs ys hs p p' asked asked'
+        is_measured x y m ys p' asked asked' keeps same ne afford adv rep ep adds = subst (λ (i : ℕ). Goes t q s old n i xs ys hs p p' asked asked') (sym same) (subst (λ (r : Progress). Goes t q s old n n xs ys hs p r asked asked') (sym ep) (record {
           next = measuring s (spot top) (map spot rest);
           move = measures (spot top) (map spot rest) (chosen rest own) (let e = st.named in omega arith) inside ne (let e = st.measured in omega arith);
           stands = record {
-            within = let w = st.within in omega arith;
+            within = omega arith;
             heap = rep.heap st.heap;
-            coherent = all_shuffled Fine (x ∷ rest) (take p.waiting ys) moved (adv.coherent, fine_rest rest own);
-            live = subst (λ (c : steps.Candidate ℕ). IsPermutation (c ∷ map spot rest) (map spot (take p.waiting ys))) seen (shuffled_map spot (x ∷ rest) (take p.waiting ys) moved);
+            coherent = all_shuffled Fine (x ∷ rest) (take n ys) moved (adv.coherent, fine_rest rest own);
+            live = subst (λ (c : steps.Candidate ℕ). IsPermutation (c ∷ map spot rest) (map spot (take n ys))) seen (shuffled_map spot (x ∷ rest) (take n ys) moved);
             named = st.named;
             measured = let e = st.measured in omega arith;
             hits = st.hits;
@@ -180,21 +177,21 @@ module _ (t : Tables) (q : Question) where
           asks = λ c a b h. ⊎_elim inl (λ e. inr (taken c a b e)) (adds c a b h);
           less =
               let e = less_by rest own in
-              let f = sum_by-IsPermutation (λ z. suc (t.channels - z.measured)) (x ∷ rest) (take p.waiting ys) moved in
+              let f = sum_by-IsPermutation (λ z. suc (t.channels - z.measured)) (x ∷ rest) (take n ys) moved in
               let g = sum_by-cons (λ z. suc (t.channels - z.measured)) x rest in
               let m = adv.measured in
               let b = below in
               omega arith;
-        })
+        }))
           where
             below : top.measured < t.channels
             below = let w = fine.sound.within in omega (arith, ne)
 
-            moved : IsPermutation (x ∷ rest) (take p.waiting ys)
-            moved = shuffled_cancel top (x ∷ rest) (take p.waiting ys)
-                (IsPermutation-trans (top ∷ x ∷ rest) (x ∷ top ∷ rest) (top ∷ take p.waiting ys) (shuffled_two top x rest)
-                (subst (λ (l : List Candidate). IsPermutation (x ∷ l) (top ∷ take p.waiting ys)) front_is
-                (subst (λ (z : Candidate). IsPermutation (x ∷ front) (z ∷ take p.waiting ys)) (sym (same_top ByBound p.waiting p.waiting top y xs pk rep.top)) rep.items)))
+            moved : IsPermutation (x ∷ rest) (take n ys)
+            moved = shuffled_cancel top (x ∷ rest) (take n ys)
+                (IsPermutation-trans (top ∷ x ∷ rest) (x ∷ top ∷ rest) (top ∷ take n ys) (shuffled_two top x rest)
+                (subst (λ (l : List Candidate). IsPermutation (x ∷ l) (top ∷ take n ys)) front_is
+                (subst (λ (z : Candidate). IsPermutation (x ∷ front) (z ∷ take n ys)) (sym (same_top ByBound n n top y xs pk rep.top)) rep.items)))
 
             seen : spot x ≡ record { patch = top.slot; t = suc top.measured }
             seen = let a = adv.slot in let b = adv.measured in λ i. record { patch = a i; t = b i }

@@ -1,5 +1,5 @@
 -- One slot more in each of the two passes, and the threshold that the first one gives.
-use Rattle.std.proofs.Common.{◌≡◌, ℕ, ◌+◌, ◌-◌, ◌<◌, ◌≤◌, Bool, true, false, cond, ◌≢◌, ◌⊎◌, List, [], ◌∷◌, ◌++◌, map, length, get_or, take, set, Some, None, filter, sym, refl, ap, ◌∙◌, subst, ⊎_elim, arith, below_more, MatchOption}
+use Rattle.std.proofs.Common.{◌≡◌, ℕ, ◌+◌, ◌-◌, ◌<◌, ◌≤◌, Bool, true, false, cond, ◌≢◌, ◌⊎◌, List, [], ◌∷◌, ◌++◌, map, length, get_or, take, set, Some, None, filter, sym, refl, ap, ◌∙◌, subst, inl, inr, ⊎_elim, arith, below_more, MatchOption}
 use Rattle.std.specs.List.{range_with_len}
 use Rattle.std.specs.List.Sorted.{IsPermutation}
 use Rattle.std.specs.declared.option.Option as rust
@@ -8,10 +8,10 @@ use Rattle.std.proofs.lemmas.List.{length-take-le, get_or-set_same, get_or-set_o
 use Rattle.std.proofs.lemmas.List.Elements.{filter-append}
 use Rattle.std.proofs.lemmas.List.Sorted.{IsPermutation-refl, IsPermutation-sym, IsPermutation-trans, IsPermutation-cons, IsPermutation-to_front}
 use Rattle.std.proofs.ByRecursion.{all_shuffled}
-use Rattle.queue.specs.Heaps.{Outside, Pushed}
-use Rattle.queue.specs.Selection.{Offered, Threshold}
+use Rattle.queue.specs.Heaps.{Pushed}
+use Rattle.queue.specs.Selection.{KthLeast, Offered, Threshold}
 use Rattle.queue.specs.declared.rank.Upper.{Upper}
-use Rattle.queue.proofs.KLeast.{none_kept}
+use Rattle.queue.proofs.KLeast.{Keeping}
 use Rattle.queue.proofs.Shuffles.{shuffled_map}
 use Rattle.queue.proofs.Sifts.{none_heaped}
 use Rattle.refine.specs.Chains.{Family, kth_least}
@@ -21,7 +21,7 @@ use Rattle.engine.specs.declared.records.Candidate.{Candidate}
 use Rattle.engine.specs.Tables.{Tables}
 use Rattle.engine.specs.Kinds.{ByBound, no_candidate}
 use Rattle.engine.specs.Slots.{Unmeasured}
-use Rattle.engine.specs.Passes.{plain, bound_at, FirstBounds, KeptWhere, spot, untouched, Admits}
+use Rattle.engine.specs.Passes.{plain, bound_at, FirstBounds, spot, untouched, Admits}
 use Rattle.engine.proofs.Places.{counting_more}
 
 -- ---- the first pass
@@ -32,41 +32,33 @@ bounds_more f i xs x h e was =
     (λ k l. let ne : k ≢ i = omega arith in ap (λ (y : Candidate). y.bound) (get_or-set_other xs i k x no_candidate ne) ∙ was k l)
     (ap (λ (y : Candidate). y.bound) (get_or-set_same xs i x no_candidate h) ∙ e)
 
-pub keeps_none : (k : ℕ) (xs : List Upper) → KeptWhere k 0 [] xs xs
-keeps_none k xs = record { fits = omega arith; kept = λ h. none_kept k; none = λ h. refl }
+pub keeps_more : (n m x : ℕ) (p : List ℕ) (xs ys zs : List Upper) → length zs ≡ length ys → Offered (length ys) n x ys m zs → Keeping n p xs ys → Keeping m (p ++ x ∷ []) xs zs
+keeps_more n m x p xs ys zs long h was = record { long = long ∙ was.long; kept = (subst (λ (k : ℕ). Offered k n x ys m zs) was.long h).keeps p was.kept }
 
-pub keeps_more : (k n m x : ℕ) (p : List ℕ) (xs ys zs : List Upper) → length ys ≡ length xs → (k ≤ length ys → Offered k n x ys m zs) → (length ys < k → m ≡ n)
-    → KeptWhere k n p xs ys → KeptWhere k m (p ++ x ∷ []) xs zs
-keeps_more k n m x p xs ys zs long room without was = record {
-  fits = ⊎_elim (λ l. let e = without l in let w = was.fits in omega arith) (λ l. let e = (room l).size in omega arith) (cases_lt (length ys) k);
-  kept = λ l. (room (omega arith)).keeps p (was.kept l);
-  none = λ l. without (omega arith) ∙ was.none l;
-}
+-- the k-th least of the numbers offered, where k is how many slots are lent
+pub kth_kept : (n m : ℕ) (p : List ℕ) (xs ys : List Upper) (r : rust.Option ℕ) → n ≤ length ys → length p ≡ m → Keeping n p xs ys
+    → MatchOption r ((n < length ys) ⊎ (n ≡ 0)) (λ v. Threshold (length ys) n v ys) → MatchOption r ((m < length xs) ⊎ (length xs ≡ 0)) (λ v. KthLeast (length xs) v p)
+kth_kept n m p xs ys None fits all was h =
+    let z = was.kept.size in
+    let long = was.long in
+    let s = length-take-le n ys fits in
+    ⊎_elim (λ a. inl (omega arith)) (λ a. inr (⊎_elim (λ b. omega arith) (λ b. omega arith) h)) (cases_lt (length p) (length xs))
+kth_kept n m p xs ys (Some v) fits all was h = ((subst (λ (k : ℕ). Threshold k n v ys) was.long h).kth p was.kept).0
 
-pub threshold_found : (k n : ℕ) (p : List ℕ) (xs ys : List Upper) (r : rust.Option ℕ) → 1 ≤ k → length p ≤ length xs → length ys ≡ length xs → KeptWhere k n p xs ys
-    → MatchOption r ((n < k) ⊎ Outside n ys) (λ v. Threshold k n v ys) → plain r ≡ kth_least k p
-threshold_found k n p xs ys None wanted room long was h = sym ((kth_by_counts k p wanted).0 (⊎_elim (λ l. omega arith) fewer (cases_lt (length xs) k)))
-  where
-    fewer : k ≤ length xs → length p < k
-    fewer l =
-        let z = (was.kept l).size in
-        let w = was.fits in
-        let s = length-take-le n ys (omega arith) in
-        ⊎_elim (λ a. omega arith) (⊎_elim (λ a. omega arith) (λ a. absurd (omega arith))) h
-threshold_found k n p xs ys (Some v) wanted room long was h =
-    let full = h.full in
-    let l : k ≤ length xs = ⊎_elim (λ a. absurd (let z = was.none a in omega arith)) (λ a. a) (cases_lt (length xs) k) in
-    let kth = (h.kth p (was.kept l)).0 in
-    sym ((kth_by_counts k p wanted).1 v kth.fewer kth.enough)
+-- from the slots lent, which are k or none, to k
+pub threshold_found : (k m n : ℕ) (us : List Upper) (p : List ℕ) (r : rust.Option ℕ) → 1 ≤ k → length p ≡ n → (m < k → n < k × m ≡ 0) → m ≤ k → length us ≡ m
+    → MatchOption r ((n < length us) ⊎ (length us ≡ 0)) (λ v. KthLeast (length us) v p) → plain r ≡ kth_least k p
+threshold_found k m n us p None wanted long none le room h = sym ((kth_by_counts k p wanted).0 (⊎_elim (λ a. omega arith) (λ a. let b = (none (omega arith)).0 in omega arith) h))
+threshold_found k m n us p (Some v) wanted long none le room h =
+    let fewer = h.fewer in
+    let e : length us ≡ k = ⊎_elim (λ a. absurd (let b = (none a).1 in omega arith)) (λ a. omega arith) (cases_lt m k) in
+    sym ((kth_by_counts k p wanted).1 v (omega arith) (omega (arith, h.enough)))
 
 -- ---- the second pass
 
 module _ (t : Tables) (w : List ℕ) (admits : ℕ → Bool) (xs : List Candidate) where
-  pub admits_none : Admits t w admits 0 0 xs xs
-  admits_none = record { few = omega arith; stand = λ j h. refl; heap = none_heaped ByBound xs 0 refl; sound = tt; live = IsPermutation-refl [] }
-
-  pub admits_at : (i n m : ℕ) (ys zs : List Candidate) → m ≡ n → zs ≡ ys → Admits t w admits i n xs ys → Admits t w admits i m xs zs
-  admits_at i n m ys zs e f h = subst (λ (q : ℕ). Admits t w admits i q xs zs) (sym e) (subst (λ (l : List Candidate). Admits t w admits i n xs l) (sym f) h)
+  pub admits_none : (n : ℕ) → n ≡ 0 → Admits t w admits 0 n xs xs
+  admits_none n none = subst (λ (m : ℕ). Admits t w admits 0 m xs xs) (sym none) (record { few = omega arith; stand = λ j h. refl; heap = none_heaped ByBound xs 0 refl; sound = tt; live = IsPermutation-refl [] })
 
   module _ (i n : ℕ) (ys : List Candidate) (was : Admits t w admits i n xs ys) where
     kept_yes : admits i ≡ true → filter admits (range_with_len 0 (i + 1)) ≡ filter admits (range_with_len 0 i) ++ i ∷ []

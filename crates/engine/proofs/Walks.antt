@@ -16,19 +16,19 @@ use Rattle.engine.specs.Turns.{is_finished, Stands, Goes, Steps, Ends}
 
 -- a run from start has come to a state for which the data stand: what ends a run from there ends it from start, and what was asked
 -- since is measured at every such end
-pub record Reached (t : Tables) (q : Question) (start : State ℕ) (old : List Neighbor) (xs : List Candidate) (hs : List Neighbor) (p : Progress) (asked asked' : Asked) : Type 0 where
+pub record Reached (t : Tables) (q : Question) (start : State ℕ) (old : List Neighbor) (n : ℕ) (xs : List Candidate) (hs : List Neighbor) (p : Progress) (asked asked' : Asked) : Type 0 where
   pub s : State ℕ
-  pub stands : Stands t q old xs hs p s
+  pub stands : Stands t q old n xs hs p s
   pub back : (b : Bool) (e : State ℕ) → Runs (table (family_of t q) q.radius) q.k q.budget s b e → Runs (table (family_of t q) q.radius) q.k q.budget start b e
   pub asks : (c : ℕ) (x y : List ℕ) → asked' c x y → asked c x y ⊎ ((b : Bool) (e : State ℕ) → Runs (table (family_of t q) q.radius) q.k q.budget s b e → Measured t q e c x y)
 
-module _ (t : Tables) (q : Question) (start : State ℕ) (old : List Neighbor) (xs : List Candidate) (hs : List Neighbor) (p : Progress) (asked asked' : Asked) where
-  pub sets_out : Stands t q old xs hs p start → Reached t q start old xs hs p asked asked
+module _ (t : Tables) (q : Question) (start : State ℕ) (old : List Neighbor) (n : ℕ) (xs : List Candidate) (hs : List Neighbor) (p : Progress) (asked asked' : Asked) where
+  pub sets_out : Stands t q old n xs hs p start → Reached t q start old n xs hs p asked asked
   sets_out st = record { s = start; stands = st; back = λ b e r. r; asks = λ c x y h. inl h }
 
-  module _ (was : Reached t q start old xs hs p asked asked') (hs' : List Neighbor) (p' : Progress) (asked'' : Asked) where
-    pub goes_on : (xs' : List Candidate) → Goes t q was.s old xs xs' hs' p p' asked' asked'' → Reached t q start old xs' hs' p' asked asked''
-    goes_on xs' h = record {
+  module _ (was : Reached t q start old n xs hs p asked asked') (hs' : List Neighbor) (p' : Progress) (asked'' : Asked) where
+    pub goes_on : (n' : ℕ) (xs' : List Candidate) → Goes t q was.s old n n' xs xs' hs' p p' asked' asked'' → Reached t q start old n' xs' hs' p' asked asked''
+    goes_on n' xs' h = record {
       s = h.next;
       stands = h.stands;
       back = λ b e r. was.back b e (goes h.move r);
@@ -52,6 +52,6 @@ module _ (t : Tables) (q : Question) (start : State ℕ) (old : List Neighbor) (
       })
 
     -- the end that a step comes to
-    pub ends_at : (end : End) (xs' : List Candidate) → Steps (Some end) t q was.s old xs xs' hs hs' p p' asked' asked'' → Ends t q start (is_finished end) old hs' p' asked asked''
-    ends_at Finished xs' h = ends true (finishes h.move) h.hits h.progress h.asks
-    ends_at Stopped xs' h = ends false (stops h.move) h.hits h.progress h.asks
+    pub ends_at : (end : End) (n' : ℕ) (xs' : List Candidate) → Steps (Some end) t q was.s old n n' xs xs' hs hs' p p' asked' asked'' → Ends t q start (is_finished end) old hs' p' asked asked''
+    ends_at Finished n' xs' h = ends true (finishes h.move) h.hits h.progress h.asks
+    ends_at Stopped n' xs' h = ends false (stops h.move) h.hits h.progress h.asks

@@ -1,12 +1,10 @@
 -- What the two passes over the slots leave.
-use Rattle.std.specs.Prelude.{◌≡◌, ℕ, ◌<◌, ◌≤◌, Bool, ◌&&◌, List, map, length, take, Some, None, filter, nat_le, slice_index_or}
+use Rattle.std.specs.Prelude.{◌≡◌, ℕ, ◌<◌, ◌≤◌, Bool, ◌&&◌, List, map, take, Some, None, filter, nat_le, slice_index_or}
 use Rattle.std.proofs.Math.Option.{Option, none, some}
 use Rattle.std.specs.List.{range_with_len, AllByRecursion as Every}
 use Rattle.std.specs.List.Sorted.{IsPermutation}
 use Rattle.std.specs.declared.option.Option as rust
 use Rattle.queue.specs.Heaps.{Heaped}
-use Rattle.queue.specs.Selection.{Kept}
-use Rattle.queue.specs.declared.rank.Upper.{Upper}
 use Rattle.refine.specs.Chains.{Family, not_above}
 use Rattle.refine.specs.Steps as steps
 use Rattle.engine.specs.declared.records.Candidate.{Candidate}
@@ -30,12 +28,6 @@ bound_at xs i = (slice_index_or xs i no_candidate).bound
 -- the first bounds of the slots below n stand at their slots
 abbrev pub FirstBounds : Family ℕ ℕ → ℕ → List Candidate → Type 0
 FirstBounds f n xs = (i : ℕ) → i < n → bound_at xs i ≡ f.bound i 0
-
--- the first n of ys, which was xs, are the k least of the numbers p, where xs has room for k; otherwise n is 0
-pub record KeptWhere (k n : ℕ) (p : List ℕ) (xs ys : List Upper) : Type 0 where
-  pub fits : n ≤ k
-  pub kept : k ≤ length xs → Kept k p (take n ys)
-  pub none : length xs < k → n ≡ 0
 
 -- a candidate as the rules see it
 abbrev pub spot : Candidate → steps.Candidate ℕ

@@ -32,20 +32,20 @@ pub record Advanced (t : Tables) (weights : List ℕ) (aggregate : List ℕ → 
   pub slot : y.slot ≡ x.slot
   pub measured : y.measured ≡ suc x.measured
 
--- the candidates, hits and progress of the code stand for the state s of the rule; the hits were old before any was named
-pub record Stands (t : Tables) (q : Question) (old : List Neighbor) (xs : List Candidate) (hs : List Neighbor) (p : Progress) (s : State ℕ) : Type 0 where
-  pub within : p.waiting ≤ length xs
-  pub heap : Heaped ByBound (take p.waiting xs)
-  pub coherent : Every (Coherent t q.weights q.aggregate) (take p.waiting xs)
-  pub live : IsPermutation s.live (map spot (take p.waiting xs))
+-- the candidates, the first n of xs, the hits and the progress of the code stand for the state s of the rule; the hits were old before any was named
+pub record Stands (t : Tables) (q : Question) (old : List Neighbor) (n : ℕ) (xs : List Candidate) (hs : List Neighbor) (p : Progress) (s : State ℕ) : Type 0 where
+  pub within : n ≤ length xs
+  pub heap : Heaped ByBound (take n xs)
+  pub coherent : Every (Coherent t q.weights q.aggregate) (take n xs)
+  pub live : IsPermutation s.live (map spot (take n xs))
   pub named : p.named ≡ length s.named
   pub measured : p.measured ≡ s.measured
   pub hits : hs ≡ map (hit t q) s.named ++ drop p.named old
-  pub few : p.named + p.waiting ≤ t.slots
+  pub few : p.named + n ≤ t.slots
 
 -- how many steps are left at most: for each candidate one to name it, and one for each channel not yet measured
-abbrev pub left : (m : ℕ) → List Candidate → Progress → ℕ
-left m xs p = sum_by (λ x. suc (m - x.measured)) (take p.waiting xs)
+abbrev pub left : (m n : ℕ) → List Candidate → ℕ
+left m n xs = sum_by (λ x. suc (m - x.measured)) (take n xs)
 
 -- the step from s comes to n, and changes nothing
 pub record Rests (t : Tables) (q : Question) (s : State ℕ) (n : Next ℕ) (hs hs' : List Neighbor) (p p' : Progress) (asked asked' : Asked) : Type 0 where
@@ -55,17 +55,17 @@ pub record Rests (t : Tables) (q : Question) (s : State ℕ) (n : Next ℕ) (hs 
   pub asks : (c : ℕ) (x y : List ℕ) → asked' c x y → asked c x y
 
 -- the step from s goes on to another state, for which the data then stand; what is asked is measured there, and fewer steps are left
-pub record Goes (t : Tables) (q : Question) (s : State ℕ) (old : List Neighbor) (xs xs' : List Candidate) (hs' : List Neighbor) (p p' : Progress) (asked asked' : Asked) : Type 0 where
+pub record Goes (t : Tables) (q : Question) (s : State ℕ) (old : List Neighbor) (n n' : ℕ) (xs xs' : List Candidate) (hs' : List Neighbor) (p p' : Progress) (asked asked' : Asked) : Type 0 where
   pub next : State ℕ
   pub move : Move (table (family_of t q) q.radius) q.k q.budget s (on next)
-  pub stands : Stands t q old xs' hs' p' next
+  pub stands : Stands t q old n' xs' hs' p' next
   pub asks : (c : ℕ) (x y : List ℕ) → asked' c x y → asked c x y ⊎ Measured t q next c x y
-  pub less : left t.channels xs' p' < left t.channels xs p
+  pub less : left t.channels n' xs' < left t.channels n xs
 
-abbrev pub Steps : Option End → (t : Tables) (q : Question) (s : State ℕ) (old : List Neighbor) (xs xs' : List Candidate) (hs hs' : List Neighbor) (p p' : Progress) (asked asked' : Asked) → Type 0
-Steps (Some Finished) t q s old xs xs' hs hs' p p' asked asked' = Rests t q s done hs hs' p p' asked asked'
-Steps (Some Stopped) t q s old xs xs' hs hs' p p' asked asked' = Rests t q s halt hs hs' p p' asked asked'
-Steps None t q s old xs xs' hs hs' p p' asked asked' = Goes t q s old xs xs' hs' p p' asked asked'
+abbrev pub Steps : Option End → (t : Tables) (q : Question) (s : State ℕ) (old : List Neighbor) (n n' : ℕ) (xs xs' : List Candidate) (hs hs' : List Neighbor) (p p' : Progress) (asked asked' : Asked) → Type 0
+Steps (Some Finished) t q s old n n' xs xs' hs hs' p p' asked asked' = Rests t q s done hs hs' p p' asked asked'
+Steps (Some Stopped) t q s old n n' xs xs' hs hs' p p' asked asked' = Rests t q s halt hs hs' p p' asked asked'
+Steps None t q s old n n' xs xs' hs hs' p p' asked asked' = Goes t q s old n n' xs xs' hs' p p' asked asked'
 
 abbrev pub is_finished : End → Bool
 is_finished Finished = true

@@ -88,10 +88,9 @@ impl Ranked for Candidate {
     }
 }
 
-/// How far a search has come: how many candidates wait, how many patches are named, and how many channels are measured.
+/// How far a search has come: how many patches are named, and how many channels are measured.
 #[derive(Clone, Copy, PartialEq, Eq, Debug)]
 pub struct Progress {
-    pub waiting: usize,
     pub named: usize,
     pub measured: u32,
 }

@@ -9,6 +9,7 @@ use crate::records::{Answer, Candidate, End, Neighbor, Progress, Question};
 use crate::source::Source;
 use crate::steps::run;
 use aggregate::Aggregate;
+use queue::heap::Heap;
 use queue::rank::Upper;
 
 // Leaves the scratch at zeros.
@@ -52,20 +53,21 @@ fn search<M, S: Source<M>, A: Aggregate>(
     ensures hits { length hits.new ≡ length hits.old }
 {
     let most = limit(source, meter, question, candidates, uppers);
-    let admitted = admit(
+    let mut waiting = Heap::new(candidates);
+    admit(
         source,
         meter,
         question.weights,
         question.radius,
         most,
-        candidates,
+        &mut waiting,
     );
+    let admitted = waiting.len();
     let mut progress = Progress {
-        waiting: admitted,
         named: 0,
         measured: 0,
     };
-    let end = run(source, meter, question, candidates, hits, &mut progress);
+    let end = run(source, meter, question, &mut waiting, hits, &mut progress);
     answer(end, &progress, admitted)
 }
 

@@ -14,7 +14,7 @@ use crate::bounds::scale;
 use crate::records::{Candidate, End, Neighbor, Progress, Question, Turn};
 use crate::source::Source;
 use aggregate::{Aggregate, Weighted};
-use queue::heap;
+use queue::heap::Heap;
 
 // What is to be done with the least candidate: the first of these that applies.
 fn turn(top: &Candidate, channels: usize, radius: Weighted, budget: u32, measured: u32) -> Turn
@@ -33,25 +33,25 @@ fn turn(top: &Candidate, channels: usize, radius: Weighted, budget: u32, measure
 
 // Writes the least candidate to the hits, and takes it out.
 fn name(
-    candidates: &mut [Candidate],
+    candidates: &mut Heap<'_, Candidate>,
     hits: &mut [Neighbor],
     at: Progress,
     top: Candidate,
 ) -> Progress
-    requires some { 0 < at.waiting }
-    requires within { at.waiting ≤ length candidates.old }
+    requires some { 0 < candidates.old.len }
     requires room { at.named < length hits.old }
-    ensures popped { (x : Candidate) × Popped ByBound at.waiting x candidates.old candidates.new }
+    ensures same_reference { candidates.new.slots.ghost_name ≡ candidates.old.slots.ghost_name }
+    ensures len { candidates.new.len ≡ candidates.old.len - 1 }
+    ensures popped { (x : Candidate) × Popped ByBound candidates.old.len x candidates.old.slots.now candidates.new.slots.now }
     ensures hits { hits.new ≡ slice_set hits.old at.named (record { accession = top.accession; distance = top.bound }) }
-    ensures progress { result ≡ record { waiting = at.waiting - 1; named = at.named + 1; measured = at.measured } }
+    ensures progress { result ≡ record { named = at.named + 1; measured = at.measured } }
 {
     hits[at.named] = Neighbor {
         accession: top.accession,
         distance: top.bound,
     };
-    let _named = heap::pop(candidates, at.waiting);
+    let _named = candidates.pop();
     Progress {
-        waiting: at.waiting - 1,
         named: at.named + 1,
         ..at
     }
@@ -97,7 +97,7 @@ fn measure<M, S: Source<M>, A: Aggregate>(
     source: &S,
     meter: &mut M,
     question: &Question<A>,
-    candidates: &mut [Candidate],
+    candidates: &mut Heap<'_, Candidate>,
     at: Progress,
     top: Candidate,
 ) -> Progress
@@ -105,18 +105,19 @@ fn measure<M, S: Source<M>, A: Aggregate>(
     requires weighable { Weighable (S.tables source.now meter.old) question.now.weights.now }
     requires sound { Sound (S.tables source.now meter.old) question.now.weights.now top }
     requires more { top.measured < (S.tables source.now meter.old).channels }
-    requires some { 0 < at.waiting }
-    requires within { at.waiting ≤ length candidates.old }
+    requires some { 0 < candidates.old.len }
     requires count { at.measured < 4294967295 }
-    ensures replaced { (x : Candidate) × (y : Candidate) × Advanced (S.tables source.now meter.old) question.now.weights.now (A.Aggregate.meaning question.now.aggregate.now) top x × Replaced ByBound at.waiting x y candidates.old candidates.new }
-    ensures progress { result ≡ record { waiting = at.waiting; named = at.named; measured = at.measured + 1 } }
+    ensures same_reference { candidates.new.slots.ghost_name ≡ candidates.old.slots.ghost_name }
+    ensures len { candidates.new.len ≡ candidates.old.len }
+    ensures replaced { (x : Candidate) × (y : Candidate) × Advanced (S.tables source.now meter.old) question.now.weights.now (A.Aggregate.meaning question.now.aggregate.now) top x × Replaced ByBound candidates.old.len x y candidates.old.slots.now candidates.new.slots.now }
+    ensures progress { result ≡ record { named = at.named; measured = at.measured + 1 } }
     ensures kept { S.tables source.now meter.new ≡ S.tables source.now meter.old }
     ensures same { S.metrics source.now meter.new ≡ S.metrics source.now meter.old }
     ensures ready { S.ready source.now meter.new }
     ensures adds { AddsAt (S.asked source.now meter.old) (S.asked source.now meter.new) (slice_index top.order top.measured) ((S.tables source.now meter.old).left top.slot (slice_index top.order top.measured)) ((S.tables source.now meter.old).right top.slot (slice_index top.order top.measured)) }
 {
     let next = advance(source, meter, question, top);
-    let _before = heap::replace_top(candidates, at.waiting, next);
+    let _before = candidates.replace_top(next);
     Progress {
         measured: at.measured + 1,
         ..at
@@ -129,15 +130,16 @@ pub(crate) fn step<M, S: Source<M>, A: Aggregate>(
     source: &S,
     meter: &mut M,
     question: &Question<A>,
-    candidates: &mut [Candidate],
+    candidates: &mut Heap<'_, Candidate>,
     hits: &mut [Neighbor],
     progress: &mut Progress,
 ) -> Option<End>
     requires ready { S.ready source.now meter.old }
     requires weighable { Weighable (S.tables source.now meter.old) question.now.weights.now }
     requires room { min question.now.k (S.tables source.now meter.old).slots ≤ length hits.old }
-    requires stands { (old : List Neighbor) × (s : State ℕ) × Stands (S.tables source.now meter.old) (posed A.Aggregate.meaning question.now) old candidates.old hits.old progress.old s }
-    ensures steps { (old : List Neighbor) (s : State ℕ) → Stands (S.tables source.now meter.old) (posed A.Aggregate.meaning question.now) old candidates.old hits.old progress.old s → Steps result (S.tables source.now meter.old) (posed A.Aggregate.meaning question.now) s old candidates.old candidates.new hits.old hits.new progress.old progress.new (S.asked source.now meter.old) (S.asked source.now meter.new) }
+    requires stands { (old : List Neighbor) × (s : State ℕ) × Stands (S.tables source.now meter.old) (posed A.Aggregate.meaning question.now) old candidates.old.len candidates.old.slots.now hits.old progress.old s }
+    ensures same_reference { candidates.new.slots.ghost_name ≡ candidates.old.slots.ghost_name }
+    ensures steps { (old : List Neighbor) (s : State ℕ) → Stands (S.tables source.now meter.old) (posed A.Aggregate.meaning question.now) old candidates.old.len candidates.old.slots.now hits.old progress.old s → Steps result (S.tables source.now meter.old) (posed A.Aggregate.meaning question.now) s old candidates.old.len candidates.new.len candidates.old.slots.now candidates.new.slots.now hits.old hits.new progress.old progress.new (S.asked source.now meter.old) (S.asked source.now meter.new) }
     ensures kept { S.tables source.now meter.new ≡ S.tables source.now meter.old }
     ensures same { S.metrics source.now meter.new ≡ S.metrics source.now meter.old }
     ensures ready { S.ready source.now meter.new }
@@ -146,7 +148,7 @@ pub(crate) fn step<M, S: Source<M>, A: Aggregate>(
     if at.named >= question.k {
         return Some(End::Finished);
     }
-    let Some(top) = heap::peek(candidates, at.waiting) else {
+    let Some(top) = candidates.peek() else {
         return Some(End::Finished);
     };
     match turn(
@@ -174,15 +176,16 @@ pub(crate) fn run<M, S: Source<M>, A: Aggregate>(
     source: &S,
     meter: &mut M,
     question: &Question<A>,
-    candidates: &mut [Candidate],
+    candidates: &mut Heap<'_, Candidate>,
     hits: &mut [Neighbor],
     progress: &mut Progress,
 ) -> End
     requires ready { S.ready source.now meter.old }
     requires weighable { Weighable (S.tables source.now meter.old) question.now.weights.now }
     requires room { min question.now.k (S.tables source.now meter.old).slots ≤ length hits.old }
-    requires stands { (old : List Neighbor) × (s : State ℕ) × Stands (S.tables source.now meter.old) (posed A.Aggregate.meaning question.now) old candidates.old hits.old progress.old s }
-    ensures ends { (old : List Neighbor) (s : State ℕ) → Stands (S.tables source.now meter.old) (posed A.Aggregate.meaning question.now) old candidates.old hits.old progress.old s → Ends (S.tables source.now meter.old) (posed A.Aggregate.meaning question.now) s (is_finished result) old hits.new progress.new (S.asked source.now meter.old) (S.asked source.now meter.new) }
+    requires stands { (old : List Neighbor) × (s : State ℕ) × Stands (S.tables source.now meter.old) (posed A.Aggregate.meaning question.now) old candidates.old.len candidates.old.slots.now hits.old progress.old s }
+    ensures same_reference { candidates.new.slots.ghost_name ≡ candidates.old.slots.ghost_name }
+    ensures ends { (old : List Neighbor) (s : State ℕ) → Stands (S.tables source.now meter.old) (posed A.Aggregate.meaning question.now) old candidates.old.len candidates.old.slots.now hits.old progress.old s → Ends (S.tables source.now meter.old) (posed A.Aggregate.meaning question.now) s (is_finished result) old hits.new progress.new (S.asked source.now meter.old) (S.asked source.now meter.new) }
     ensures kept { S.tables source.now meter.new ≡ S.tables source.now meter.old }
     ensures same { S.metrics source.now meter.new ≡ S.metrics source.now meter.old }
     ensures ready { S.ready source.now meter.new }
