@@ -1,4 +1,5 @@
-//! Examples of what the bench program prints, over the bench's four channels and 64 slots.
+//! Examples of what the bench program prints, over the bench's four channels and 64 slots. Each is a test of its own, so that a failure
+//! names it.
 #![tactic(auto)]
 
 #[cfg(test)]

@@ -1,4 +1,5 @@
-//! Writing answers, one behind another.
+//! Writing answers, one behind another. The place of the next goes from call to call: a writer that held the answers would need a clause at
+//! each function that they are the same.
 ghost use Rattle.std.specs.Prelude.{◌≡◌, ◌+◌, ◌*◌, ◌<◌, ◌≤◌, length};
 ghost use Rattle.embedding.specs.Answers.{Wrote};
 

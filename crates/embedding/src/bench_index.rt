@@ -1,4 +1,4 @@
-//! An index over the bench's four channels.
+//! An index over the bench's four channels: a function for each name that C calls, as numbers and slices, over one generic function each.
 ghost use Rattle.std.specs.Prelude.{◌≡◌, ◌<◌, ◌≤◌, length};
 ghost use Rattle.embedding.specs.Answers.{Wrote};
 

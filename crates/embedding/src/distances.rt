@@ -1,4 +1,4 @@
-//! The built metrics, one distance at a time.
+//! The built metrics, one distance at a time: a function for each name that C calls, over one generic function.
 ghost use Rattle.std.specs.Prelude.{◌≡◌, ℕ, ◌+◌, ◌-◌, ◌≤◌, IfSome, length};
 ghost use Rattle.metric.specs.Distances.{summed, largest, difference, differing_bits, shorter_way};
 

@@ -1,4 +1,5 @@
-//! Commands served, one after another.
+//! Commands served, one after another. What is lent goes from function to function in parameters: a struct of several `&mut` would need a
+//! clause at each that each is the same.
 ghost use Rattle.std.specs.Prelude.{◌≡◌, ◌+◌, ◌*◌, ◌<◌, ◌≤◌, min, length, IfOk, MatchOption};
 ghost use Rattle.embedding.specs.Answers.{Wrote};
 ghost use Rattle.embedding.specs.Sessions.{reached};

@@ -1,4 +1,4 @@
-//! An index over eight wide channels: the four built metrics twice, on rows of 256 bytes.
+//! An index over eight wide channels: the four built metrics twice, on rows of 256 bytes; a function for each name that C calls.
 ghost use Rattle.std.specs.Prelude.{◌≡◌, ◌<◌, ◌≤◌, length};
 ghost use Rattle.embedding.specs.Answers.{Wrote};
 

@@ -36,6 +36,7 @@ impl Neighbor {
 /// What a search comes to: whether it is complete, and how many patches it named, channels it measured and patches it admitted.
 #[derive(Clone, Copy, PartialEq, Eq, Debug)]
 pub struct Answer {
+    // A flag: callers print it as a number, and an enum of two would say no more.
     pub complete: bool,
     pub named: u16,
     pub measured: u32,

@@ -1,4 +1,4 @@
-//! Reads and writes on the bytes of a store.
+//! Writes on the bytes of a store, at an address: the store has no length but its own.
 ghost use Rattle.std.specs.Prelude.{◌≡◌, ◌+◌, ◌≤◌, length, replicate};
 ghost use Rattle.big_endian.specs.Numbers.{be16};
 ghost use Rattle.index.specs.Bytes.{put, part};

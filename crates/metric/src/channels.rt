@@ -105,6 +105,7 @@ impl<A: ChannelSet, B: ChannelSet> ChannelSet for Pair<A, B> {
         self.first.channels().saturating_add(self.second.channels())
     }
 
+    // One method for each that the trait asks for: a closure over both sets would be no shorter than their two arms.
     fn width(&self, c: usize) -> usize {
         match behind(&self.first, c) {
             None => self.first.width(c),

@@ -51,6 +51,8 @@ fn take_in(slots: &mut [Upper], len: usize, x: u32) -> Option<usize>
     Some(least.len())
 }
 
+// The two functions below are for a lender who keeps the number of records beside the slots: what they promised, they promise still.
+
 /// Takes one number more into the k least of those offered so far, which are in the first `len` slots, and says how many there are then;
 /// none, and no change, where the scratch has fewer than `k` slots, or `len` is past `k`.
 pub fn offer(scratch: &mut [Upper], len: usize, k: usize, x: u32) -> Option<usize>

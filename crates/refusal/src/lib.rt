@@ -42,7 +42,7 @@ pub enum Refusal {
 }
 
 impl Refusal {
-    /// The number that users know it by.
+    /// The number that users know it by: what a call answers in print and in C, and so no name.
     pub fn number(self) -> u8
         ensures value { result ≡ number self }
         ensures cases { Listed }
@@ -68,7 +68,7 @@ impl Refusal {
     }
 }
 
-/// The number that a call answers: 0, or its refusal's.
+/// The number that a call answers in print and in C: 0, or its refusal's.
 pub fn code(outcome: Result<(), Refusal>) -> u8
     ensures { result ≡ code_of outcome }
 {

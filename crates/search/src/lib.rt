@@ -1,4 +1,5 @@
-//! The search over an index, and what it promises.
+//! The search over an index, and what it promises. Hits and scratch are lent as they are: a struct of several `&mut` would need a clause at
+//! each function that each is the same.
 #![tactic(auto)]
 
 ghost use Rattle.std.specs.Prelude.{◌≡◌, ℕ, ◌≤◌, List, ◌∷◌, length, replicate};

@@ -33,6 +33,7 @@ pub(crate) fn ask_pivots<S: ChannelSet>(set: &mut S, view: &View) -> [[u16; 8]; 
     ensures asks { AddsOnly (S.asked set.old) (S.asked set.new) (NearAsks (few (S.models set.old)) view.now.counts view.now.store.now view.now.query.now) }
 {
     let mut table = [[0u16; 8]; 8];
+    // A loop, for the same reason.
     for c in 0..view.layout.channels {
         table[c] = ask_channel(set, view, c);
     }

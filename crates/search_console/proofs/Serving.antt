@@ -1,17 +1,15 @@
 -- What serving a command comes to.
-use Rattle.std.proofs.Common.{◌≡◌, ℕ, List, ◌++◌, IfOk, Some, None, Option, Result, sym, refl, ap, ◌∙◌, subst}
+use Rattle.std.proofs.Common.{◌≡◌, ℕ, List, ◌++◌, IfOk, Result, sym, refl, subst}
 use Rattle.std.proofs.lemmas.Result.{IfOk-weaker}
 use Rattle.std.specs.declared.fmt.Error.{Error}
-use Rattle.refusal.specs.Refusals.{answered}
 use Rattle.refusal.specs.declared.Refusal.{Refusal}
 use Rattle.metric.specs.Model.{Model}
 use Rattle.command.specs.declared.Command.{Command}
-use Rattle.command.specs.Commands.{Instruction, meant, insert, remove, add_pivot, remove_pivot, nearest}
+use Rattle.command.specs.Commands.{Instruction, meant, nearest}
 use Rattle.index.specs.History.{Written, call}
 use Rattle.engine.specs.declared.records.Answer.{Answer}
 use Rattle.engine.specs.declared.records.Neighbor.{Neighbor}
-use Rattle.console.specs.Lines.{line}
-use Rattle.console.specs.Sessions.{call_of, Served, Serves as Answers}
+use Rattle.console.specs.Sessions.{call_of}
 use Rattle.search_console.specs.Lines.{search_lines}
 use Rattle.search_console.specs.Sessions.{Room, Replies, Says, Serves}
 

@@ -1,17 +1,16 @@
 -- A run of the bench program: commands in, lines out.
-use Rattle.std.specs.Prelude.{◌≡◌, ℕ, ◌<◌, Bool, true, false, cond, List, [], ◌++◌, length, Some, None, Ok, Err, codes, Option, Result, nat_lt}
+use Rattle.std.specs.Prelude.{◌≡◌, ℕ, Bool, true, false, cond, List, [], ◌++◌, length, Some, codes, Option, Result, nat_lt}
 use Rattle.metric.specs.Model.{Model}
 use Rattle.metric.specs.Channels.{Asked}
 use Rattle.aggregate.specs.Choices.{chosen, number as choice_number}
 use Rattle.aggregate.specs.declared.Choice.{Choice}
-use Rattle.index.specs.declared.counts.Counts.{Counts}
 use Rattle.refusal.specs.Refusals.{number}
 use Rattle.refusal.specs.declared.Refusal.{Refusal}
 use Rattle.refusal.specs.declared.Refusal.TheVariants.{UnknownAggregate}
 use Rattle.command.specs.declared.format.Format.{Format}
 use Rattle.command.specs.Commands.{Instruction, insert, remove, add_pivot, remove_pivot, nearest, encode, Fits, read_refusal}
 use Rattle.index.specs.Calls.{insert_refusal, remove_refusal, add_refusal, free_refusal}
-use Rattle.index.specs.History.{Call, insert as inserting, remove as removing, add_pivot as adding, remove_pivot as freeing, nearest as searching, Written, call}
+use Rattle.index.specs.History.{Written, call}
 use Rattle.engine.specs.declared.records.Answer.{Answer}
 use Rattle.engine.specs.declared.records.Neighbor.{Neighbor}
 use Rattle.search.specs.Refusals.{handed, search_refusal, refused, Granted}

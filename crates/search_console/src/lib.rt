@@ -1,4 +1,5 @@
-//! The bench program's commands, served: bytes in, lines out.
+//! The bench program's commands, served: bytes in, lines out. What is lent goes from function to function in parameters: a struct of
+//! several `&mut` would need a clause at each that each is the same.
 #![tactic(auto)]
 
 ghost use Rattle.std.specs.Prelude.{◌≡◌, ℕ, List, ◌++◌, length, IfOk, string_bytes, OnOk};

@@ -1,9 +1,8 @@
 use Rattle.std.proofs.Common.{ℕ, List, ◌++◌, true, false, length, string_bytes, ap, ◌∙◌, subst, append_assoc, arith}
 use Rattle.patch.specs.Patches.{few}
-use Rattle.index.specs.History.{Written}
 use Rattle.command.specs.declared.format.Format.{Format}
 use Rattle.console.specs.Sessions.{written}
-use Rattle.search_console.specs.Sessions.{room_of, Session, Turn}
+use Rattle.search_console.specs.Sessions.{room_of, Session}
 use Rattle.search_console.proofs.Running.{one_more, come, shorter, turned}
 use Rattle.search_console.proofs.Promising.{session_promised}
 use Rattle.search_console.proofs.run.Goals as goal

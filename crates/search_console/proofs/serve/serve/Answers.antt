@@ -1,4 +1,4 @@
-use Rattle.std.proofs.Common.{length, string_bytes, codes, refl, ap}
+use Rattle.std.proofs.Common.{length, string_bytes, refl, ap}
 use Rattle.command.specs.Commands.{meant}
 use Rattle.patch.specs.Patches.{few}
 use Rattle.search_console.specs.Sessions.{room_of}
