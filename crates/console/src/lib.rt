@@ -62,7 +62,8 @@ fn next_command<'a>(reader: &mut Reader<'a>) -> Result<Option<Command<'a>>, Refu
     reader.next()
 }
 
-// Serves the next command and prints its line; or prints why there is none, or nothing at the end. Whether there may be more.
+// Serves the next command and prints its line; or prints why there is none, or nothing at the end. Whether there may be more: nothing
+// else comes of a turn, and so it is a truth and no `ControlFlow`.
 fn turn<S: ChannelSet>(
     index: &mut PivotIndex<S>,
     store: &mut [u8],

@@ -17,7 +17,7 @@ use refusal::{Refusal, code};
 use search::{Query, nearest};
 use std::ops::ControlFlow;
 
-// A question of a command.
+// A question of a command, as it was read: its aggregate is a number, which may name none.
 #[derive(Clone, Copy)]
 struct Asked<'a> {
     aggregate: u8,

@@ -21,7 +21,8 @@ use std::fmt;
 mod print;
 mod serve;
 
-// Serves the next command and prints its lines; or prints why there is none, or nothing at the end. Whether there may be more.
+// Serves the next command and prints its lines; or prints why there is none, or nothing at the end. Whether there may be more, as in
+// `console`, whose turn has no lists to lend.
 fn turn<S: ChannelSet>(
     index: &mut PivotIndex<S>,
     store: &mut [u8],

@@ -44,7 +44,7 @@ fn named(answer: Answer, hits: &[Neighbor]) -> &[Neighbor]
     requires { answer.named ≤ length hits.now }
     ensures { result.now ≡ take answer.named hits.now }
 {
-    &hits[..answer.named as usize]
+    &hits[..usize::from(answer.named)]
 }
 
 // Prints the reply to a search: its refusal's number, or its summary and the hits that it named.

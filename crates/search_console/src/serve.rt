@@ -18,7 +18,7 @@ use refusal::{Refusal, code};
 use search::{Query, nearest};
 use std::fmt;
 
-// Searches as a command asks, its aggregate given by number.
+// Searches as a command asks. What it asks comes as it was read, its aggregate as a number, which may name none.
 fn find<'a, S: ChannelSet>(
     index: &mut PivotIndex<S>,
     store: &[u8],

@@ -36,7 +36,7 @@ pub struct Told {
 
 /// Hits beyond those named are as they began.
 pub fn check_untouched(rt: &impl Abort, hits: &[Neighbor], named: u16) -> Result<(), Fail> {
-    for hit in hits.iter().skip(named as usize) {
+    for hit in hits.iter().skip(usize::from(named)) {
         assert_eq!(rt; *hit, UNTOUCHED);
     }
     Ok(())

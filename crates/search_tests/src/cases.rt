@@ -17,7 +17,7 @@ const QUESTIONS: u32 = 8;
 
 // The list is a beginning of the scan's, and all of it where the search is complete.
 fn check_begins(rt: &impl Abort, told: &Told, scan: &[(u32, u16)]) -> Result<(), Fail> {
-    let named = told.answer.named as usize;
+    let named = usize::from(told.answer.named);
     assert!(rt; named <= scan.len());
     assert!(rt; !told.answer.complete || named == scan.len());
     for (hit, expected) in told.hits.iter().zip(scan).take(named) {
@@ -28,9 +28,9 @@ fn check_begins(rt: &impl Abort, told: &Told, scan: &[(u32, u16)]) -> Result<(),
 
 // One list begins the other.
 fn check_agree(rt: &impl Abort, a: &Told, b: &Told) -> Result<(), Fail> {
-    let both = a.answer.named.min(b.answer.named) as usize;
+    let both = usize::from(a.answer.named.min(b.answer.named));
     for (x, y) in a.hits.iter().zip(&b.hits).take(both) {
-        assert_eq!(rt; (x.distance, x.accession), (y.distance, y.accession));
+        assert_eq!(rt; x, y);
     }
     Ok(())
 }

@@ -65,12 +65,7 @@ impl Rows {
     }
 
     fn holds(self, list: &[u8], row: u8) -> bool {
-        for x in list {
-            if self.row(*x) == row {
-                return true;
-            }
-        }
-        false
+        list.iter().any(|x| self.row(*x) == row)
     }
 
     // A pair that is recorded is the query's row with a pivot's, or with a patch's: whether it is with a patch's.

@@ -1,4 +1,4 @@
-//! Sets of channels, each with its description for the full scan.
+//! Sets of channels, each with its description for the full scan. They are made here, so that these tests stand apart from the bench.
 use crate::scan::{Channel, Kind};
 use metric::channels::{Pair, Single};
 use metric::chebyshev::Chebyshev;

@@ -26,15 +26,7 @@ fn keep(held: &mut Vec<Patch>, patch: Patch) -> Result<(), AllocError> {
 }
 
 fn forget(held: &mut Vec<Patch>, accession: u16) {
-    let mut place = held.len();
-    for (i, patch) in held.iter().enumerate() {
-        if patch.accession == accession {
-            place = i;
-        }
-    }
-    if place < held.len() {
-        let _ = held.remove(place);
-    }
+    held.retain(|patch| patch.accession != accession);
 }
 
 impl<S: ChannelSet + Drop> Supplier<S> {
