@@ -1,9 +1,14 @@
 //! Two patches are measured against a query on the bench's four channels, and the program says how they compare.
 #![tactic(auto)]
 
+ghost use Rattle.std.specs.Prelude.{◌≡◌, IfOk, replicate};
+ghost use Rattle.aggregate.specs.Aggregates.{total, greatest, smallest};
+ghost use Rattle.patch.specs.Patches.{distance_in, all_weighted};
+
 use aggregate::{Max, Min, Sum, Weighted};
 use anyhow::anyhow;
 use bench::{Bench, bench};
+use metric::channels::ChannelSet;
 use patch::{aggregated_distance, channel_distance};
 use refusal::Refusal;
 
@@ -24,7 +29,17 @@ struct Comparison {
     least: Weighted,
 }
 
-fn compare(set: &mut Bench, query: &[u8], patch: &Patch) -> Result<Comparison, Refusal> {
+// What is measured, all weights being 1.
+fn compare(set: &mut Bench, query: &[u8], patch: &Patch) -> Result<Comparison, Refusal>
+    ensures number { IfOk result (λ c. c.number ≡ patch.now.0) }
+    ensures bands { IfOk result (λ c. c.bands ≡ distance_in (⟦<Bench as ChannelSet>⟧.models set.old) query.now patch.now.1 0) }
+    ensures ink { IfOk result (λ c. c.ink ≡ distance_in (⟦<Bench as ChannelSet>⟧.models set.old) query.now patch.now.1 1) }
+    ensures grain { IfOk result (λ c. c.grain ≡ distance_in (⟦<Bench as ChannelSet>⟧.models set.old) query.now patch.now.1 2) }
+    ensures depth { IfOk result (λ c. c.depth ≡ distance_in (⟦<Bench as ChannelSet>⟧.models set.old) query.now patch.now.1 3) }
+    ensures sum { IfOk result (λ c. c.sum ≡ total (all_weighted (⟦<Bench as ChannelSet>⟧.models set.old) (replicate 4 1) query.now patch.now.1)) }
+    ensures greatest { IfOk result (λ c. c.greatest ≡ greatest (all_weighted (⟦<Bench as ChannelSet>⟧.models set.old) (replicate 4 1) query.now patch.now.1)) }
+    ensures least { IfOk result (λ c. c.least ≡ smallest (all_weighted (⟦<Bench as ChannelSet>⟧.models set.old) (replicate 4 1) query.now patch.now.1)) }
+{
     let Patch(number, rows) = patch;
     let weights = [1u8; 4];
     Ok(Comparison {
