@@ -32,7 +32,8 @@ pub fn shrink(r: &mut ChannelRecord)
 }
 
 impl Inventory {
-    // The first slot held that has the accession number.
+    // The first slot held that has the accession number. Never inlined: within a larger call each turn would also carry that call's numbers.
+    #[inline(never)]
     pub(crate) fn first_slot(&self, store: &[u8], accession: u16) -> Option<u16>
         requires { self.now.layout.size ≤ length store.now }
         ensures is { result ≡ first_from store.now accession self.now.counts.held 0 }
