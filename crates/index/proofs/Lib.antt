@@ -3,6 +3,8 @@ pub mod Spans
 pub mod Eaches
 pub mod Stores
 pub mod Workings
+pub mod Records
+pub mod Nexts
 mod Fields
 mod Turning
 mod Shown

@@ -1,5 +1,6 @@
 -- What a write to the store leaves of its parts.
 use Rattle.std.proofs.Common.{◌≡◌, ℕ, zero, suc, ◌+◌, ◌-◌, ◌<◌, ◌≤◌, ◌⊎◌, List, length, take, drop, replicate, sym, ap, ◌∙◌, inl, inr, arith, rules}
+use lib.Seq.{paste}
 use Rattle.std.proofs.lemmas.List.{places, same_lists, length-take, length-drop, length-append}
 use Rattle.index.specs.Bytes.{put, part}
 use Rattle.index.specs.Steps.{each, moved}
@@ -79,3 +80,7 @@ module _ (from to len : ℕ) (y : List ℕ) (ff : from + len ≤ length y) (ft :
   moved_other at n (inl p) (inr q) = same_lists _ _ (search (rules, places)) (λ j d h. grind (arith, places))
   moved_other at n (inr p) (inl q) = same_lists _ _ (search (rules, places)) (λ j d h. grind (arith, places))
   moved_other at n (inr p) (inr q) = same_lists _ _ (search (rules, places)) (λ j d h. grind (arith, places))
+
+-- a copy within the store, as the library says it
+pub copied : (from to n m : ℕ) (xs : List ℕ) → m ≡ n → from + n ≤ length xs → to + n ≤ length xs → paste xs to (drop from xs) m ≡ put to (part from n xs) xs
+copied from to n m xs e h t = rw e (same_lists _ _ (search (rules, places)) (λ k d q. grind (arith, places)))

@@ -1,5 +1,5 @@
 -- The loops of src/steps.rt, a turn each.
-use Rattle.std.proofs.Common.{◌≡◌, ℕ, ◌+◌, ◌-◌, ◌<◌, ◌≤◌, List, length, take, drop, sym, ap, ◌∙◌, subst, inl, inr, ⊎_elim, arith}
+use Rattle.std.proofs.Common.{◌≡◌, ℕ, ◌+◌, ◌-◌, ◌<◌, ◌≤◌, List, length, take, drop, sym, refl, ap, ◌∙◌, subst, inl, inr, ⊎_elim, arith}
 use Rattle.metric.specs.Model.{Model}
 use Rattle.metric.specs.Channels.{Asked, AddsAt, at}
 use Rattle.big_endian.specs.Numbers.{be16}
@@ -13,13 +13,33 @@ use Rattle.index.specs.Layouts.{layout_of, row_at, pivot_at, distance_at}
 use Rattle.index.specs.Limits.{pivots_in}
 use Rattle.index.specs.Steps.{slot_row, pivot_row, store_distance}
 use Rattle.index.specs.Works.{Ready, InUse}
-use Rattle.index.proofs.Puts.{part_same, cut}
+use Rattle.index.proofs.Puts.{part_same, cut, length_part}
 use Rattle.index.proofs.Spans.{next_le}
 
 -- the row as code cuts it
 pub row_cut : (ms : List Model) (l : Layout) (c start w : ℕ) (rows : List ℕ) → InUse ms l c start w → take ((start + w) - start) (drop start rows) ≡ row (few ms) c rows
 row_cut ms l c start w rows u =
     cut start w rows ∙ ap (λ (n : ℕ). part start n rows) u.wide ∙ ap (λ (n : ℕ). part n (at (few ms) c).width rows) u.begins
+
+pub row_long : (ms : List Model) (l : Layout) (c start w : ℕ) (rows : List ℕ) → InUse ms l c start w → length rows ≡ l.row → length (row (few ms) c rows) ≡ (at (few ms) c).width
+row_long ms l c start w rows u e = length_part (offset (few ms) c) (at (few ms) c).width rows (omega (arith, u.inside, u.begins, u.wide))
+
+-- where the row of a pivot begins
+pub pivot_begins : (ms : List Model) (l : Layout) (c start w p from : ℕ) → InUse ms l c start w → from ≡ pivot_at l start w p → from ≡ pivot_at l (offset (few ms) c) (at (few ms) c).width p
+pivot_begins ms l c start w p from u e =
+    e ∙ ap (λ (n : ℕ). pivot_at l n w p) u.begins ∙ ap (λ (n : ℕ). pivot_at l (offset (few ms) c) n p) u.wide
+
+-- the row of a pivot that ends below `distances`, where the stores agree there
+pub pivot_same : (ms : List Model) (l : Layout) (c p n from : ℕ) (b b₀ : List ℕ) → n ≡ (at ms c).width → from ≡ pivot_at l (offset ms c) (at ms c).width p → from + n ≤ l.distances
+    → take l.distances b ≡ take l.distances b₀ → part from n b ≡ pivot_row ms l c p b₀
+pivot_same ms l c p n from b b₀ en ef h below =
+    part_same l.distances from n b b₀ h below ∙ ap (λ (m : ℕ). part m n b₀) ef ∙ ap (λ (m : ℕ). part (pivot_at l (offset ms c) (at ms c).width p) m b₀) en
+
+-- the same of the row of a slot
+pub own_row_same : (ms : List Model) (l : Layout) (c slot n own : ℕ) (b b₀ : List ℕ) → n ≡ (at ms c).width → own ≡ row_at l slot + offset ms c → own + n ≤ l.distances
+    → take l.distances b ≡ take l.distances b₀ → part own n b ≡ slot_row ms l c slot b₀
+own_row_same ms l c slot n own b b₀ en eo h below =
+    part_same l.distances own n b b₀ h below ∙ ap (λ (m : ℕ). part m n b₀) eo ∙ ap (λ (m : ℕ). part (row_at l slot + offset ms c) m b₀) en
 
 -- the row of a pivot as code cuts it, and that of a slot
 pub pivot_cut : (ms : List Model) (l : Layout) (c start w p from : ℕ) (b : List ℕ) → InUse ms l c start w → from ≡ pivot_at l start w p → take ((from + w) - from) (drop from b) ≡ pivot_row (few ms) l c p b
@@ -36,6 +56,9 @@ adds_pair before mid after P c a b h e p k x y t =
     ⊎_elim (λ u. h k x y u)
     (λ v. inr (subst (λ (j : ℕ). P j x y) (sym v.0) (subst (λ (r : List ℕ). P c r y) (sym v.1) (subst (λ (r : List ℕ). P c a r) (sym v.2) p))))
     (e k x y t)
+
+pub adds_none : (before P : Asked) → AddsOnly before before P
+adds_none before P k x y t = inl t
 
 -- more pairs are asked, which are among P
 pub adds_more : (before mid after P : Asked) → AddsOnly before mid P → AddsOnly mid after P → AddsOnly before after P
@@ -85,14 +108,14 @@ pivot_ends ms k l b c p r h lt =
     omega (arith, r.row, r.sound.distances, next_le p 8 (at ms c).width lt, row_ends ms c h)
 
 -- rows in stores that agree below `distances`
-pub pivot_same : (ms : List Model) (k : Counts) (l : Layout) (b b₀ : List ℕ) (c p : ℕ) → Ready ms k l b₀ → c < length ms → p < 8 → take l.distances b ≡ take l.distances b₀ → pivot_row ms l c p b ≡ pivot_row ms l c p b₀
-pivot_same ms k l b b₀ c p r h lt below = part_same l.distances _ _ b b₀ (pivot_ends ms k l b₀ c p r h lt) below
+pub pivot_kept : (ms : List Model) (k : Counts) (l : Layout) (b b₀ : List ℕ) (c p : ℕ) → Ready ms k l b₀ → c < length ms → p < 8 → take l.distances b ≡ take l.distances b₀ → pivot_row ms l c p b ≡ pivot_row ms l c p b₀
+pivot_kept ms k l b b₀ c p r h lt below = pivot_same ms l c p _ _ b b₀ refl refl (pivot_ends ms k l b₀ c p r h lt) below
 
 pub slot_same : (ms : List Model) (k : Counts) (l : Layout) (b b₀ : List ℕ) (c slot : ℕ) → Ready ms k l b₀ → c < length ms → slot < k.capacity → take l.distances b ≡ take l.distances b₀ → slot_row ms l c slot b ≡ slot_row ms l c slot b₀
 slot_same ms k l b b₀ c slot r h lt below =
     let s : slot < l.capacity = omega (arith, r.slots) in
     let e : (row_at l slot + offset ms c) + (at ms c).width ≤ l.distances = omega (arith, r.row, r.sound.pivots, r.sound.distances, next_le slot l.capacity l.row s, row_ends ms c h) in
-    part_same l.distances _ _ b b₀ e below
+    own_row_same ms l c slot _ _ b b₀ refl refl e below
 
 -- pairs asked of stores that agree below `distances`
 pub insert_asks_below : (ms ms₁ : List Model) (k : Counts) (l : Layout) (b b₀ rows : List ℕ) → ms₁ ≡ ms → Ready (few ms) k l b₀ → take l.distances b ≡ take l.distances b₀
@@ -101,6 +124,6 @@ insert_asks_below ms ms₁ k l b b₀ rows same r below c x y h =
     insert_asks_same (few ms) k b b₀ rows
     (λ j p lt q.
     let lt8 : p < 8 = omega (arith, r.eight j) in
-    let z = pivot_same (few ms) k l b b₀ j p r lt lt8 below in
+    let z = pivot_kept (few ms) k l b b₀ j p r lt lt8 below in
     subst (λ (m : Layout). pivot_row (few ms) m j p b ≡ pivot_row (few ms) m j p b₀) r.layout z)
     c x y (subst (λ (ls : List Model). InsertAsks (few ls) k b rows c x y) same h)

@@ -10,6 +10,9 @@ use Rattle.patch.specs.Patches.{few, width_of, offset, patch_width}
 pub few_at : (ms : List Model) (c : ℕ) → c < length (few ms) → at (few ms) c ≡ at ms c
 few_at ms c h = get_or-take 8 ms c no_model (omega (arith, length-take 8 ms))
 
+pub few_lawful : (ms : List Model) → AllLawful ms → AllLawful (few ms)
+few_lawful ms law c h = rw (few_at ms c h) (law c (omega (arith, length-take 8 ms)))
+
 -- a set of at most eight channels uses them all
 pub few_all : (ms : List Model) → length ms ≤ 8 → few ms ≡ ms
 few_all ms h = take_all 8 ms h

@@ -6,7 +6,7 @@ use Rattle.index.specs.Asks.{InsertAsks}
 use Rattle.index.specs.Steps.{pivot_row, store_distance}
 use Rattle.index.proofs.Eaches.{each_more}
 use Rattle.index.proofs.Puts.{length_put, take_put}
-use Rattle.index.proofs.Stores.{row_cut, pivot_cut, pivot_same, stored, adds_pair}
+use Rattle.index.proofs.Stores.{row_cut, pivot_cut, pivot_kept, stored, adds_pair}
 use Rattle.index.proofs.inventory.Inventory.store_channel.Goals as goal
 
 pub loop-p-preserved : goal.loop-p-preserved
@@ -45,7 +45,7 @@ loop-p-preserved g c =
             (
               p,
               omega (arith, c.loop-p-test.true, c.pivots_in-p-end.ensures),
-              ey ∙ pivot_same (few ms) c.args.self.now.counts l b b₀ i p c.requires.ready c.requires.channel lt c.loop-p.invariant.3 ∙ ap (λ (z : Layout). pivot_row (few ms) z i p b₀) c.requires.ready.layout,
+              ey ∙ pivot_kept (few ms) c.args.self.now.counts l b b₀ i p c.requires.ready c.requires.channel lt c.loop-p.invariant.3 ∙ ap (λ (z : Layout). pivot_row (few ms) z i p b₀) c.requires.ready.layout,
             ),
           ),
     )

@@ -5,7 +5,7 @@ use Rattle.index.specs.Steps.{slot_row, store_own}
 use Rattle.index.specs.Works.{OwnAsks}
 use Rattle.index.proofs.Eaches.{each_more}
 use Rattle.index.proofs.Puts.{length_put, take_put}
-use Rattle.index.proofs.Stores.{own_cut, pivot_cut, pivot_same, slot_same, stored, adds_pair}
+use Rattle.index.proofs.Stores.{own_cut, pivot_cut, pivot_kept, slot_same, stored, adds_pair}
 use Rattle.index.proofs.inventory.Inventory.store_owns.Goals as goal
 
 pub loop-slot-preserved : goal.loop-slot-preserved
@@ -42,7 +42,7 @@ loop-slot-preserved g c =
       adds_pair (s.asked c.args.set.now) (s.asked c.loop-slot.set) (s.asked c.distance-d.new.self) (OwnAsks (few ms) l k.held b₀ i p) i _ y
           c.loop-slot.invariant.4 c.distance-d.ensures.adds (
             refl,
-            ey ∙ pivot_same (few ms) k l b b₀ i p c.requires.ready c.requires.channel c.requires.pivot below,
+            ey ∙ pivot_kept (few ms) k l b b₀ i p c.requires.ready c.requires.channel c.requires.pivot below,
             (j, lt, ex ∙ slot_same (few ms) k l b b₀ i j c.requires.ready c.requires.channel (omega (arith, lt, c.requires.ready.held)) below),
           ),
     )
