@@ -1,7 +1,8 @@
 //! The bench program's commands, served: bytes in, lines out.
 #![tactic(auto)]
 
-ghost use Rattle.std.specs.Prelude.{◌≡◌, ℕ, List, ◌++◌, IfOk, string_bytes, OnOk};
+ghost use Rattle.std.specs.Prelude.{◌≡◌, ℕ, ◌<◌, ◌≤◌, List, ◌++◌, length, take, IfOk, string_bytes, OnOk};
+ghost use Rattle.std.specs.Io.KnownBytes.{Consumes, IsAtEnd};
 ghost use Rattle.command.specs.Commands.{meant};
 ghost use Rattle.patch.specs.Patches.{few};
 ghost use Rattle.refusal.specs.Refusals.{number, code_of};
@@ -13,7 +14,25 @@ use command::{Command, Reader};
 use index::pivot_index::PivotIndex;
 use metric::channels::ChannelSet;
 use refusal::{Refusal, code};
-use std::fmt;
+use std::io::Read;
+use std::{fmt, io};
+
+/// Reads until the buffer is full or the input ends: how many bytes came, which are its first. It asks for no memory.
+pub fn fill<R: Read>(source: &mut R, buffer: &mut [u8]) -> io::Result<usize>
+    ensures count { IfOk result (λ n. n ≤ length buffer.old) }
+    ensures bytes { IfOk result (λ n. Consumes (R.remaining source.old) (R.remaining source.new) (take n buffer.new)) }
+    ensures end { IfOk result (λ n. n < length buffer.old → IsAtEnd (R.remaining source.new)) }
+{
+    let mut len = 0;
+    while len < buffer.len() {
+        let got = source.read(&mut buffer[len..])?;
+        if got == 0 {
+            break;
+        }
+        len += got;
+    }
+    Ok(len)
+}
 
 /// Prints a letter and a number.
 pub fn print_line(out: &mut String, letter: &str, number: u8) -> fmt::Result

@@ -3,24 +3,20 @@
 
 use anyhow::anyhow;
 use bench::{FORMAT, bench};
-use console::run;
+use console::{fill, run};
 use index::pivot_index::PivotIndex;
-use std::io::Read;
 
 const SLOTS: u16 = 64;
 
-// How many bytes of the input are read at most.
-const INPUT: u64 = 32768;
-
 fn serve(rt: &HostRuntime) -> anyhow::Result<()> {
-    let mut input = Vec::new(rt.alloc());
-    rt.stdin().take(INPUT).read_to_end(&mut input)?;
+    let mut input = [0u8; 32768];
+    let len = fill(&mut rt.stdin(), &mut input)?;
     let mut store = [0u8; 5088];
     let Ok(mut index) = PivotIndex::new(bench(), SLOTS, &mut store) else {
         return Err(anyhow!("the store does not fit the bench's channels"));
     };
     let mut lines = String::new(rt.alloc());
-    if run(&mut index, &mut store, FORMAT, input.as_slice(), &mut lines).is_err() {
+    if run(&mut index, &mut store, FORMAT, &input[0..len], &mut lines).is_err() {
         return Err(anyhow!("no memory for the lines"));
     }
     rt.print(lines.as_str())?;
