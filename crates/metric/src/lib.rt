@@ -9,6 +9,7 @@ pub mod channels;
 pub mod chebyshev;
 pub mod circular;
 pub mod city_block;
+pub mod formulas;
 mod gathered;
 pub mod hamming;
 mod width;
