@@ -38,6 +38,7 @@ fn compare(set: &mut Bench, query: &[u8], patch: &Patch) -> Result<Comparison, R
     ensures depth { IfOk result (λ c. c.depth ≡ distance_in (⟦<Bench as ChannelSet>⟧.models set.old) query.now patch.now.1 3) }
     ensures sum { IfOk result (λ c. c.sum ≡ total (all_weighted (⟦<Bench as ChannelSet>⟧.models set.old) (replicate 4 1) query.now patch.now.1)) }
     ensures greatest { IfOk result (λ c. c.greatest ≡ greatest (all_weighted (⟦<Bench as ChannelSet>⟧.models set.old) (replicate 4 1) query.now patch.now.1)) }
+    ensures same { ⟦<Bench as ChannelSet>⟧.models set.new ≡ ⟦<Bench as ChannelSet>⟧.models set.old }
     ensures least { IfOk result (λ c. c.least ≡ smallest (all_weighted (⟦<Bench as ChannelSet>⟧.models set.old) (replicate 4 1) query.now patch.now.1)) }
 {
     let Patch(number, rows) = patch;
