@@ -68,7 +68,7 @@ module _ (k n m x : ℕ) (xs ys : List Upper) (le : n ≤ k) (room : k ≤ lengt
   front : length (take n xs) ≡ n
   front = length-take-le n xs (omega arith)
 
-  takes : (u : Upper) → u.0 ≡ x → m ≡ n + 1 → n < k → Pushed Descending n u xs ys → Offered k n x xs m ys
+  pub takes : (u : Upper) → u.0 ≡ x → m ≡ n + 1 → n < k → Pushed Descending n u xs ys → Offered k n x xs m ys
   takes u e next lt h = subst (λ j. Offered k n x xs j ys) (sym next) (
       let s : IsPermutation (x ∷ numbers (take n xs)) (numbers (take (n + 1) ys) ++ []) =
       subst (IsPermutation (x ∷ numbers (take n xs))) (sym (append-nil (numbers (take (n + 1) ys)))) (subst (λ y. IsPermutation (y ∷ numbers (take n xs)) (numbers (take (n + 1) ys))) e (shuffled_numbers _ _ h.items)) in
