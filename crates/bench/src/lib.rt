@@ -3,6 +3,7 @@
 
 ghost use Rattle.std.specs.Prelude.{◌≡◌, ◌+◌, [], ◌∷◌};
 ghost use Rattle.metric.specs.Distances.{city_block, hamming, circular, chebyshev};
+ghost use Rattle.bench.specs.Bench.{channels};
 
 use command::format::Format;
 use metric::channels::{ChannelSet, Pair, Single};
@@ -60,6 +61,7 @@ pub fn bench() -> Bench
     ensures ink { result.first.second.metric.width.last ≡ 3 }
     ensures grain { result.second.first.metric.width.last ≡ 1 }
     ensures depth { result.second.second.metric.width.last ≡ 1 }
+    ensures means { ⟦<Bench as ChannelSet>⟧.models result ≡ channels }
 {
     four(3, 3, 1, 1)
 }

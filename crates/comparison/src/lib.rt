@@ -3,12 +3,12 @@
 
 ghost use Rattle.std.specs.Prelude.{◌≡◌, IfOk, replicate};
 ghost use Rattle.aggregate.specs.Aggregates.{total, greatest, smallest};
+ghost use Rattle.bench.specs.Bench.{channels};
 ghost use Rattle.patch.specs.Patches.{distance_in, all_weighted};
 
 use aggregate::{Max, Min, Sum, Weighted};
 use anyhow::anyhow;
-use bench::{Bench, bench};
-use metric::channels::ChannelSet;
+use bench::bench;
 use patch::{aggregated_distance, channel_distance};
 use refusal::Refusal;
 
@@ -30,28 +30,28 @@ struct Comparison {
 }
 
 // What is measured, all weights being 1.
-fn compare(set: &mut Bench, query: &[u8], patch: &Patch) -> Result<Comparison, Refusal>
+fn compare(query: &[u8], patch: &Patch) -> Result<Comparison, Refusal>
     ensures number { IfOk result (λ c. c.number ≡ patch.now.0) }
-    ensures bands { IfOk result (λ c. c.bands ≡ distance_in (⟦<Bench as ChannelSet>⟧.models set.old) query.now patch.now.1 0) }
-    ensures ink { IfOk result (λ c. c.ink ≡ distance_in (⟦<Bench as ChannelSet>⟧.models set.old) query.now patch.now.1 1) }
-    ensures grain { IfOk result (λ c. c.grain ≡ distance_in (⟦<Bench as ChannelSet>⟧.models set.old) query.now patch.now.1 2) }
-    ensures depth { IfOk result (λ c. c.depth ≡ distance_in (⟦<Bench as ChannelSet>⟧.models set.old) query.now patch.now.1 3) }
-    ensures sum { IfOk result (λ c. c.sum ≡ total (all_weighted (⟦<Bench as ChannelSet>⟧.models set.old) (replicate 4 1) query.now patch.now.1)) }
-    ensures greatest { IfOk result (λ c. c.greatest ≡ greatest (all_weighted (⟦<Bench as ChannelSet>⟧.models set.old) (replicate 4 1) query.now patch.now.1)) }
-    ensures same { ⟦<Bench as ChannelSet>⟧.models set.new ≡ ⟦<Bench as ChannelSet>⟧.models set.old }
-    ensures least { IfOk result (λ c. c.least ≡ smallest (all_weighted (⟦<Bench as ChannelSet>⟧.models set.old) (replicate 4 1) query.now patch.now.1)) }
+    ensures bands { IfOk result (λ c. c.bands ≡ distance_in channels query.now patch.now.1 0) }
+    ensures ink { IfOk result (λ c. c.ink ≡ distance_in channels query.now patch.now.1 1) }
+    ensures grain { IfOk result (λ c. c.grain ≡ distance_in channels query.now patch.now.1 2) }
+    ensures depth { IfOk result (λ c. c.depth ≡ distance_in channels query.now patch.now.1 3) }
+    ensures sum { IfOk result (λ c. c.sum ≡ total (all_weighted channels (replicate 4 1) query.now patch.now.1)) }
+    ensures greatest { IfOk result (λ c. c.greatest ≡ greatest (all_weighted channels (replicate 4 1) query.now patch.now.1)) }
+    ensures least { IfOk result (λ c. c.least ≡ smallest (all_weighted channels (replicate 4 1) query.now patch.now.1)) }
 {
+    let mut set = bench();
     let Patch(number, rows) = patch;
     let weights = [1u8; 4];
     Ok(Comparison {
         number: *number,
-        bands: channel_distance(set, 0, query, rows)?,
-        ink: channel_distance(set, 1, query, rows)?,
-        grain: channel_distance(set, 2, query, rows)?,
-        depth: channel_distance(set, 3, query, rows)?,
-        sum: aggregated_distance(set, &Sum, &weights, query, rows)?,
-        greatest: aggregated_distance(set, &Max, &weights, query, rows)?,
-        least: aggregated_distance(set, &Min, &weights, query, rows)?,
+        bands: channel_distance(&mut set, 0, query, rows)?,
+        ink: channel_distance(&mut set, 1, query, rows)?,
+        grain: channel_distance(&mut set, 2, query, rows)?,
+        depth: channel_distance(&mut set, 3, query, rows)?,
+        sum: aggregated_distance(&mut set, &Sum, &weights, query, rows)?,
+        greatest: aggregated_distance(&mut set, &Max, &weights, query, rows)?,
+        least: aggregated_distance(&mut set, &Min, &weights, query, rows)?,
     })
 }
 
@@ -101,12 +101,8 @@ pub fn compare_two(
     first: &Patch,
     second: &Patch,
 ) -> anyhow::Result<()> {
-    let mut set = bench();
     println!(rt; "Two patches are measured against a query, channel by channel.")?;
-    let (Ok(a), Ok(b)) = (
-        compare(&mut set, query, first),
-        compare(&mut set, query, second),
-    ) else {
+    let (Ok(a), Ok(b)) = (compare(query, first), compare(query, second)) else {
         return Err(anyhow!("a patch does not fit the bench's channels"));
     };
     tell(rt, a)?;
