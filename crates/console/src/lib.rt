@@ -17,7 +17,7 @@ use refusal::{Refusal, code};
 use std::io::Read;
 use std::{fmt, io};
 
-/// Reads until the buffer is full or the input ends: how many bytes came, which are its first. It asks for no memory.
+/// Reads until the buffer is full or the input ends: how many bytes came, which are its first. It has no allocator.
 pub fn fill<R: Read>(source: &mut R, buffer: &mut [u8]) -> io::Result<usize>
     ensures count { IfOk result (λ n. n ≤ length buffer.old) }
     ensures bytes { IfOk result (λ n. Consumes (R.remaining source.old) (R.remaining source.new) (take n buffer.new)) }

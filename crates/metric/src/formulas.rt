@@ -8,7 +8,7 @@ use crate::circular::Circular;
 use crate::city_block::CityBlock;
 use crate::hamming::Hamming;
 
-/// Each built metric means what its formula says: none can be made of other parts.
+/// Each built metric means what its formula says, whatever parts its name stands for.
 pub fn by_formula(a: &CityBlock, b: &Hamming, c: &Circular, d: &Chebyshev)
     ensures city_block { ⟦<CityBlock as Metric>⟧.model a.now ≡ city_block (a.now.width.last + 1) }
     ensures hamming { ⟦<Hamming as Metric>⟧.model b.now ≡ hamming (b.now.width.last + 1) }
